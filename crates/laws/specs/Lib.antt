@@ -1,0 +1,3 @@
+-- Definitions that the specifications of several crates are written in.
+pub mod Pick
+pub mod Text

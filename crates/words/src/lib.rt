@@ -1,0 +1,2 @@
+// Words, integers and units of time: what a run of letters and digits says.
+pub mod unit;
