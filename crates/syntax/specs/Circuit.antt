@@ -8,20 +8,21 @@ pub data Operator : Type 0 where
   AND OR NAND NOR XOR XNOR : Operator
   deriving Discrete as Operator-discrete
 
-pub data Value : Type 0 where
-  signal : ℕ → Value
-  constant : Bool → Value
-  negated : Value → Value
-  combined : Operator → Value → Value → Value
+-- an expression over signal numbers
+pub data Formula : Type 0 where
+  signal : ℕ → Formula
+  constant : Bool → Formula
+  negated : Formula → Formula
+  combined : Operator → Formula → Formula → Formula
 
 -- a list of statements: none; or one of the three, and those after it
 pub data Actions : Type 0 where
   done : Actions
-  assign : (target : ℕ) → Value → (delay : ℕ) → Actions → Actions
-  branch : Value → (first second : Actions) → Actions → Actions
+  assign : (target : ℕ) → Formula → (delay : ℕ) → Actions → Actions
+  branch : Formula → (first second : Actions) → Actions → Actions
   null : Actions → Actions
 
--- the signals that wake it, each once, and what it does
+-- a process: the signals that wake it, each once, and what it does
 pub record Activity : Type 0 where
   pub wakes : List ℕ
   pub body : Actions
