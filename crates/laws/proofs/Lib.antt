@@ -1,0 +1,5 @@
+-- Lemmas that the proofs of several crates cite.
+pub mod Lists
+pub mod Picks
+pub mod Table
+pub mod Tags
