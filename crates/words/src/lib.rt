@@ -1,2 +1,4 @@
-// Words, integers and units of time: what a run of letters and digits says.
+// Words, integers and units of time: what a run of letters, digits and underscores says.
+pub mod integer;
 pub mod unit;
+pub mod vocabulary;
