@@ -3,3 +3,4 @@ pub mod Byte
 pub mod Blank
 pub mod Run
 pub mod Token
+pub mod Examples
