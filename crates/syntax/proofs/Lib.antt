@@ -1,0 +1,2 @@
+-- The grammar as a stack machine, and the theorems on refusals 3 and 4.
+pub mod Machine
