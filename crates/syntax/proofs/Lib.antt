@@ -1,2 +1,4 @@
 -- The grammar as a stack machine, and the theorems on refusals 3 and 4.
 pub mod Machine
+pub mod Rows
+pub mod Laws
