@@ -2,3 +2,4 @@
 pub mod Machine
 pub mod Rows
 pub mod Laws
+pub mod Nesting
