@@ -3,3 +3,4 @@ pub mod Machine
 pub mod Rows
 pub mod Laws
 pub mod Nesting
+pub mod Theorem
