@@ -4,3 +4,4 @@ pub mod Rows
 pub mod Laws
 pub mod Nesting
 pub mod Theorem
+pub mod Examples
