@@ -15,7 +15,7 @@ use Rattle.syntax.specs.Tree.{immediate, after, done, also, assignment, 
 use Rattle.syntax.specs.Tree.{declaration, unlisted, listed, process, design, primaryText}
 use Rattle.syntax.proofs.Machine.{Values, Step, texts}
 use Rattle.syntax.proofs.Rows.{Place, inBrackets, inCondition, inAssignment, Block, inProcess, inThen, inElse, Part, entityPart, architecturePart, Ending, Closing, endingText}
-use Rattle.syntax.proofs.Rows.{Symbol, aDesign, aName, anInteger, aLiteral, aUnit, aFactor, aPrimary, theWord, signals, moreSignals, initialValue, processes, processBody, moreListed, beginning, closingName, closing, statements, anExpression, aTail, aMore, anEnd}
+use Rattle.syntax.proofs.Rows.{Symbol, aDesign, aName, anInteger, aLiteral, aUnit, aFactor, aPrimary, theWord, signals, moreSignals, initialValue, processes, processBody, moreListed, beginning, closingName, closing, statements, closingIf, anExpression, aTail, aMore, anEnd}
 use Rattle.syntax.proofs.Rows.{Value, text, Row, rows, next, endRows, closeRows, primaryRows, fixed-fits, Every, found}
 
 -- A ROW HAS THE TEXT OF ITS SYMBOL
@@ -58,6 +58,7 @@ rows-sound beginning = (λ a ws r. refl, (λ a ws r. refl, tt))
 rows-sound closingName = (λ a ws r. refl, (λ a ws r. refl, tt))
 rows-sound (closing u) = (λ a ws r. refl, (λ a ws r. refl, (λ a ws r. refl, tt)))
 rows-sound (statements b) = (λ a ws r. refl, (λ a ws r. refl, (λ a ws r. refl, close-sound b)))
+rows-sound closingIf = (λ a ws r. refl, tt)
 rows-sound (anExpression c) = (λ a ws r. refl, primary-sound (anExpression c) (aTail c ∷ []) (λ p ws. (expression (plain p) (ws .0 .0), ws .0 .1)) (λ p ws r. refl))
 rows-sound (aTail c) = (λ a ws r. refl, (λ a ws r. refl, end-sound (aTail c) c (λ a. (alone, a)) (λ a r. refl)))
 rows-sound (aMore d c) = (λ a ws r. refl, end-sound (aMore d c) c (λ a. (enough, a)) (λ a r. refl))
@@ -121,9 +122,10 @@ first (statements b) (also (assignment n e a) ss, z) = (name n, ((tt, (tt, ((e, 
 first (statements b) (also (conditional e s o) ss, z) = (fixed IF, (((e, tt), ((s, o), ((ss, z), tt))), refl))
 first (statements b) (also null ss, z) = (fixed NULL, ((tt, ((ss, z), tt)), refl))
 first (statements inProcess) (done, z) = (fixed END, ((tt, (z, tt)), refl))
-first (statements inThen) (done, missing) = (fixed END, ((tt, (tt, tt)), refl))
+first (statements inThen) (done, missing) = (fixed END, ((tt, tt), refl))
 first (statements inThen) (done, otherwise ss) = (fixed ELSE, (((ss, tt), tt), refl))
-first (statements inElse) (done, z) = (fixed END, ((tt, (tt, tt)), refl))
+first (statements inElse) (done, z) = (fixed END, ((tt, tt), refl))
+first closingIf v = (fixed IF, ((tt, tt), refl))
 first (anExpression c) (expression (plain (named n)) o, a) = (name n, (((o, a), tt), refl))
 first (anExpression c) (expression (plain (constant b)) o, a) = (literal b, (((o, a), tt), refl))
 first (anExpression c) (expression (plain (bracketed e)) o, a) = (fixed OPEN, (((e, tt), ((o, a), tt)), refl))
@@ -186,6 +188,7 @@ fill beginning = false
 fill closingName = none
 fill (closing u) = (false, none)
 fill (statements b) = (done, fill-closing b)
+fill closingIf = tt
 fill (anExpression c) = (expression (plain (named [])) alone, fill-ending c)
 fill (aTail c) = (alone, fill-ending c)
 fill (aMore d c) = (enough, fill-ending c)

@@ -11,7 +11,7 @@ use Rattle.syntax.specs.Tree.{Primary, named, constant, bracketed, expre
 use Rattle.syntax.specs.Sentence.{expressionNest, tailNest, moreNest, factorNest, primaryNest, statementsNest, otherwiseNest, processesNest, nest}
 use Rattle.syntax.proofs.Machine.{Values, Step, weights, nests}
 use Rattle.syntax.proofs.Rows.{Place, inBrackets, inCondition, inAssignment, Block, inProcess, inThen, inElse, Ending, Closing}
-use Rattle.syntax.proofs.Rows.{Symbol, aDesign, aName, anInteger, aLiteral, aUnit, aFactor, aPrimary, theWord, signals, moreSignals, initialValue, processes, processBody, moreListed, beginning, closingName, closing, statements, anExpression, aTail, aMore, anEnd}
+use Rattle.syntax.proofs.Rows.{Symbol, aDesign, aName, anInteger, aLiteral, aUnit, aFactor, aPrimary, theWord, signals, moreSignals, initialValue, processes, processBody, moreListed, beginning, closingName, closing, statements, closingIf, anExpression, aTail, aMore, anEnd}
 use Rattle.syntax.proofs.Rows.{Value, Row, rows, next, endRows, closeRows, primaryRows, Every, found}
 use Rattle.syntax.proofs.Laws.{fill, fill-closing}
 
@@ -46,6 +46,7 @@ weight beginning = 0
 weight closingName = 0
 weight (closing u) = 0
 weight (statements b) = blockWeight b
+weight closingIf = 1
 weight (anExpression c) = placeWeight c
 weight (aTail c) = placeWeight c
 weight (aMore d c) = placeWeight c
@@ -77,6 +78,7 @@ depth beginning v = 0
 depth closingName v = 0
 depth (closing u) v = 0
 depth (statements b) v = blockWeight b + max (statementsNest (v .0)) (closingDepth b (v .1))
+depth closingIf v = 1
 depth (anExpression c) v = placeWeight c + expressionNest (v .0)
 depth (aTail c) v = placeWeight c + tailNest (v .0)
 depth (aMore d c) v = placeWeight c + moreNest (v .0)
@@ -109,6 +111,7 @@ shallow beginning = omega arith
 shallow closingName = omega arith
 shallow (closing u) = omega arith
 shallow (statements b) = let h = shallow-closing b in omega arith
+shallow closingIf = omega arith
 shallow (anExpression c) = omega arith
 shallow (aTail c) = omega arith
 shallow (aMore d c) = omega arith
@@ -179,6 +182,7 @@ rows-deep (statements b) = (
     (λ a ws. omega arith, close-deep b),
   ),
 )
+rows-deep closingIf = (λ a ws. omega arith, tt)
 rows-deep (anExpression c) = (
   λ a ws. omega arith,
   primary-deep (anExpression c) (aTail c ∷ []) (λ p ws. (expression (plain p) (ws .0 .0), ws .0 .1)) (λ p ws. omega arith) (λ ws. omega arith),

@@ -145,8 +145,9 @@ pub data Symbol : Type 0 where
   -- [name] `;`; [`entity` or `architecture`] [name] `;`
   closingName : Symbol
   closing : Part → Symbol
-  -- {statement} and what closes them
+  -- {statement} and what closes them; `if` `;` behind `end`
   statements : Block → Symbol
+  closingIf : Symbol
   -- an expression, what may follow its first factor, what may follow a factor of a chain, each with what must follow; only that
   anExpression aTail : Place → Symbol
   aMore : Chain → Place → Symbol
@@ -181,6 +182,7 @@ Value beginning = Bool
 Value closingName = Option Name
 Value (closing u) = Bool × Option Name
 Value (statements b) = Statements × Closing b
+Value closingIf = Unit
 Value (anExpression c) = Expression × Ending c
 Value (aTail c) = Tail × Ending c
 Value (aMore d c) = More × Ending c
@@ -215,6 +217,7 @@ text beginning i r = wordText i IS (fixed BEGIN ∷ r)
 text closingName o r = nameText o (fixed SEMICOLON ∷ r)
 text (closing u) v r = wordText (v .0) (partWord u) (nameText (v .1) (fixed SEMICOLON ∷ r))
 text (statements b) v r = statementsText (v .0) (closingText b (v .1) r)
+text closingIf v r = fixed IF ∷ fixed SEMICOLON ∷ r
 text (anExpression c) v r = expressionText (v .0) (endingText c (v .1) r)
 text (aTail c) v r = tailText (v .0) (endingText c (v .1) r)
 text (aMore d c) v r = moreText (v .0) d (endingText c (v .1) r)
@@ -240,8 +243,8 @@ endRows X inAssignment f = row (theFixed SEMICOLON) (λ _. []) (λ _ _. f immedi
 abbrev pub closeRows : (b : Block) → List (Row (statements b))
 closeRows inProcess = row (theFixed END) (λ _. theWord PROCESS ∷ closingName ∷ []) (λ _ ws. (done, ws .1 .0)) ∷ []
 closeRows inThen = row (theFixed ELSE) (λ _. statements inElse ∷ []) (λ _ ws. (done, otherwise (ws .0 .0)))
-    ∷ row (theFixed END) (λ _. theWord IF ∷ theWord SEMICOLON ∷ []) (λ _ _. (done, missing)) ∷ []
-closeRows inElse = row (theFixed END) (λ _. theWord IF ∷ theWord SEMICOLON ∷ []) (λ _ _. (done, tt)) ∷ []
+    ∷ row (theFixed END) (λ _. closingIf ∷ []) (λ _ _. (done, missing)) ∷ []
+closeRows inElse = row (theFixed END) (λ _. closingIf ∷ []) (λ _ _. (done, tt)) ∷ []
 
 -- a primary, and the symbols ys after it
 abbrev pub primaryRows : (X : Symbol) (ys : List Symbol) → (Primary → Values Value ys → Value X) → List (Row X)
@@ -289,6 +292,7 @@ rows (statements b) = row anyName (λ _. theWord ARROW ∷ theWord TRANSPORT ∷
     (λ _ ws. (also (conditional (ws .0 .0) (ws .1 .0 .0) (ws .1 .0 .1)) (ws .1 .1 .0 .0), ws .1 .1 .0 .1))
     ∷ row (theFixed NULL) (λ _. theWord SEMICOLON ∷ statements b ∷ []) (λ _ ws. (also null (ws .1 .0 .0), ws .1 .0 .1))
     ∷ closeRows b
+rows closingIf = row (theFixed IF) (λ _. theWord SEMICOLON ∷ []) (λ _ _. tt) ∷ []
 rows (anExpression c) = row (theFixed NOT) (λ _. aPrimary ∷ aTail c ∷ []) (λ _ ws. (expression (negated (ws .0)) (ws .1 .0 .0), ws .1 .0 .1))
     ∷ primaryRows (anExpression c) (aTail c ∷ []) (λ p ws. (expression (plain p) (ws .0 .0), ws .0 .1))
 rows (aTail c) = row anyOnce (λ _. aFactor ∷ anEnd c ∷ []) (λ o ws. (joined o (ws .0), ws .1 .0))
