@@ -10,7 +10,7 @@ use lib.ListN.{length, take, drop, take-append-drop}
 use lib.Seq.{take-all, take-take}
 use Rattle.words.specs.Token.{Token}
 use Rattle.syntax.specs.Tree.{Design, designText}
-use Rattle.syntax.specs.Sentence.{mostOpen, nest, Sentence, Viable, ViableWithin, Refused3, Refused4, Verdict, accepted, refused3, refused4, Right}
+use Rattle.syntax.specs.Sentence.{mostOpen, nest, Sentence, Viable, ViableWithin, Stuck, Refused3, Refused4, Verdict, accepted, refused3, refused4, Right}
 use Rattle.syntax.proofs.Machine as machine
 use Rattle.syntax.proofs.Machine.{Values, Judged, judge, complete}
 use Rattle.syntax.proofs.Rows.{Symbol, Value, aDesign, text, next}
@@ -77,28 +77,29 @@ module _ (ts : List Token) where
   sentence-within : (d : Design) → Right ts (accepted d) → (k : ℕ) → ViableWithin (take k ts)
   sentence-within d (e, n) k = (d, n, drop k ts, e ∙ sym (take-append-drop k ts))
 
-  not-both : (d : Design) (k : ℕ) → Right ts (accepted d) → ¬ Refused3 ts k
-  not-both d k a b = go (b .here)
-    where
-      go : ((k < length ts) × ¬ Viable (take (suc k) ts)) ⊎ ((k ≡ length ts) × ¬ Sentence ts) → ⊥
-      go (inl (_, bad)) = bad (viable-within (suc k) (sentence-within d a (suc k)))
-      go (inr (_, bad)) = bad (d, a .0)
+  -- 3 is not due on a sentence, nor before what can go on
+  pub not-stuck : Sentence ts → (k : ℕ) → ¬ Stuck ts k
+  not-stuck (d, e) k (inl (_, bad)) = bad (d, drop (suc k) ts, e ∙ sym (take-append-drop (suc k) ts))
+  not-stuck (d, e) k (inr (_, bad)) = bad (d, e)
 
-  -- where 3 is due, no more tokens can go on
-  last3 : (j k : ℕ) → Refused3 ts j → k ≤ length ts → Viable (take k ts) → k ≤ j
-  last3 j k a l v = go (a .here) (decLe k j)
+  pub last-viable : (j k : ℕ) → Stuck ts j → k ≤ length ts → Viable (take k ts) → k ≤ j
+  last-viable j k a l v = go a (decLe k j)
     where
-      go : ((j < length ts) × ¬ Viable (take (suc j) ts)) ⊎ ((j ≡ length ts) × ¬ Sentence ts) → Dec (k ≤ j) → k ≤ j
+      go : Stuck ts j → Dec (k ≤ j) → k ≤ j
       go x (yes h) = h
       go (inl (_, bad)) (no h) = absurd (bad (shorter (suc j) k (omega arith) v))
       go (inr (e, _)) (no h) = omega arith
 
-  pub place3 : (k : ℕ) → Refused3 ts k → k ≤ length ts
-  place3 k a = go (a .here)
-    where
-      go : ((k < length ts) × ¬ Viable (take (suc k) ts)) ⊎ ((k ≡ length ts) × ¬ Sentence ts) → k ≤ length ts
-      go (inl (l, _)) = omega arith
-      go (inr (e, _)) = omega arith
+  pub place3 : (k : ℕ) → Stuck ts k → k ≤ length ts
+  place3 k (inl (l, _)) = omega arith
+  place3 k (inr (e, _)) = omega arith
+
+  -- two places where no sentence can go on, both behind tokens that can, are one
+  pub one-stuck : (j k : ℕ) → Stuck ts j → Viable (take j ts) → Stuck ts k → Viable (take k ts) → j ≡ k
+  one-stuck j k a v b w =
+      let p = last-viable j k a (place3 k b) w in
+      let q = last-viable k j b (place3 j a) v in
+      omega arith
 
   pub place4 : (k : ℕ) → Refused4 ts k → k < length ts
   place4 k a = go (decLe (length ts) k)
@@ -109,19 +110,15 @@ module _ (ts : List Token) where
 
   not-3-and-4 : (j k : ℕ) → Refused3 ts j → ¬ Refused4 ts k
   not-3-and-4 j k a b =
-      let l = place4 k b in
-      let m = last3 j (suc k) a l (b .viable) in
+      let m = last-viable j (suc k) (a .here) (place4 k b) (b .viable) in
       b .here (shorter-within (suc k) j m (a .before))
 
   pub one-verdict : (u v : Verdict Design) → Right ts u → Right ts v → u ≡ v
   one-verdict (accepted d) (accepted d′) a b = ap accepted (one-tree d d′ (a .0 ∙ sym (b .0)))
-  one-verdict (accepted d) (refused3 k) a b = absurd (not-both d k a b)
+  one-verdict (accepted d) (refused3 k) a b = absurd (not-stuck (d, a .0) k (b .here))
   one-verdict (accepted d) (refused4 k) a b = absurd (b .here (sentence-within d a (suc k)))
-  one-verdict (refused3 k) (accepted d) a b = absurd (not-both d k b a)
-  one-verdict (refused3 j) (refused3 k) a b =
-      let p = last3 j k a (place3 k b) (viable-within k (b .before)) in
-      let q = last3 k j b (place3 j a) (viable-within j (a .before)) in
-      ap refused3 (omega arith)
+  one-verdict (refused3 k) (accepted d) a b = absurd (not-stuck (d, b .0) k (a .here))
+  one-verdict (refused3 j) (refused3 k) a b = ap refused3 (one-stuck j k (a .here) (viable-within j (a .before)) (b .here) (viable-within k (b .before)))
   one-verdict (refused3 j) (refused4 k) a b = absurd (not-3-and-4 j k a b)
   one-verdict (refused4 k) (accepted d) a b = absurd (a .here (sentence-within d b (suc k)))
   one-verdict (refused4 k) (refused3 j) a b = absurd (not-3-and-4 j k b a)

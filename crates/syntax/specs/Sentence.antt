@@ -83,10 +83,14 @@ ViableWithin p = (d : Design) × (nest d ≤ mostOpen) × (rest : List Token) ×
 
 -- REFUSALS: token k is the first that is refused, so what stands before it can go on to a sentence within the limit
 
--- 3 at token k: no sentence, sizes aside, can go on with it; or the text ends, and is none
+-- no sentence, sizes aside, can go on with token k; or the text ends before it, and is none
+abbrev pub Stuck : List Token → ℕ → Type 0
+Stuck ts k = ((k < length ts) × ¬ Viable (take (suc k) ts)) ⊎ ((k ≡ length ts) × ¬ Sentence ts)
+
+-- 3 at token k
 pub record Refused3 (ts : List Token) (k : ℕ) : Type 0 where
   pub before : ViableWithin (take k ts)
-  pub here : ((k < length ts) × ¬ Viable (take (suc k) ts)) ⊎ ((k ≡ length ts) × ¬ Sentence ts)
+  pub here : Stuck ts k
 
 -- 4 at token k: a sentence can go on with it, so that 3 is not due, but every such sentence has more than 32 open
 pub record Refused4 (ts : List Token) (k : ℕ) : Type 0 where
