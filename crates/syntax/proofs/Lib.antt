@@ -4,4 +4,5 @@ pub mod Rows
 pub mod Laws
 pub mod Nesting
 pub mod Theorem
+pub mod Counting
 pub mod Examples
