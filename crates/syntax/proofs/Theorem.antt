@@ -12,7 +12,7 @@ use Rattle.words.specs.Token.{Token}
 use Rattle.syntax.specs.Tree.{Design, designText}
 use Rattle.syntax.specs.Sentence.{mostOpen, nest, Sentence, Viable, ViableWithin, Stuck, Refused3, Refused4, Verdict, accepted, refused3, refused4, Right}
 use Rattle.syntax.proofs.Machine as machine
-use Rattle.syntax.proofs.Machine.{Values, Judged, judge, complete}
+use Rattle.syntax.proofs.Machine.{Values, ViableOf, Judged, judge, complete}
 use Rattle.syntax.proofs.Rows.{Symbol, Value, aDesign, text, next}
 use Rattle.syntax.proofs.Laws.{sound, view, fill}
 use Rattle.syntax.proofs.Nesting.{weight, depth, shallow, deep}
@@ -26,6 +26,9 @@ read ts = run ts (aDesign ∷ []) (λ vs. vs .0)
 
 -- THE VERDICT IS RIGHT
 
+whole : (p : List Token) → Viable p → ViableOf Value text next weight depth mostOpen (aDesign ∷ []) p
+whole p (d, r, e) = ((d, tt), r, e)
+
 pub read-right : (ts : List Token) → Right ts (read ts)
 unfolding read
 read-right ts = go (run ts (aDesign ∷ []) (λ vs. vs .0))
@@ -35,7 +38,7 @@ read-right ts = go (run ts (aDesign ∷ []) (λ vs. vs .0))
     go (accepted d) (vs, h, e, g) = (ap designText (sym e) ∙ g, subst (λ x. nest x ≤ mostOpen) e (omega arith))
     go (refused3 k) ((vs, h, r, g), inl (l, bad)) = record {
       before = (vs .0, omega arith, r, g);
-      here = inl (l, λ (d, r, e). bad ((d, tt), r, e));
+      here = inl (l, λ v. bad (whole (take (suc k) ts) v));
     }
     go (refused3 k) ((vs, h, r, g), inr (l, bad)) = record {
       before = (vs .0, omega arith, r, g);

@@ -92,7 +92,8 @@ pub record Refused3 (ts : List Token) (k : ℕ) : Type 0 where
   pub before : ViableWithin (take k ts)
   pub here : Stuck ts k
 
--- 4 at token k: a sentence can go on with it, so that 3 is not due, but every such sentence has more than 32 open
+-- 4 at token k: a sentence can go on with it, so that 3 is not due, but every such sentence has more than 32 open.
+-- Said the other way, token k is the bracket or `if` that is the 33rd open, counted token by token: `thirty-third` of proofs/Counting proves that the two agree.
 pub record Refused4 (ts : List Token) (k : ℕ) : Type 0 where
   pub before : ViableWithin (take k ts)
   pub viable : Viable (take (suc k) ts)
