@@ -15,7 +15,7 @@ use Rattle.words.specs.Token.{Fixed, Fixed-discrete, END, BEGIN, PROCESS, IF, O
 use Rattle.words.specs.Token.{Token, name, integer, literal, once, chain, unit, fixed, foreign}
 use Rattle.syntax.specs.Tree.{Primary, expression, plain, alone, enough, Design, designText}
 use Rattle.syntax.specs.Sentence.{mostOpen, Viable, Stuck, Refused3, Refused4, Verdict, accepted, refused3, refused4, Right}
-use Rattle.syntax.proofs.Machine.{Values, Step, weights, later, made}
+use Rattle.syntax.proofs.Machine.{Values, Step, weights, later, made, limited, taking}
 use Rattle.syntax.proofs.Rows.{Place, inBrackets, inCondition, inAssignment, Block, inProcess, inThen, inElse, entityPart, architecturePart, Ending}
 use Rattle.syntax.proofs.Rows.{Symbol, aDesign, aName, anInteger, aLiteral, aUnit, aFactor, aPrimary, theWord, signals, moreSignals, initialValue, processes, processBody, moreListed, beginning, closingName, closing, statements, closingIf, anExpression, aTail, aMore, anEnd}
 use Rattle.syntax.proofs.Rows.{Value, rows, next, endRows, closeRows, primaryRows, Every, found}
@@ -358,27 +358,18 @@ run-counted : {D : Type 0} (ts : List Token) (p : Token) (ss : List Symbol) (k :
 run-counted [] p [] k st h = shallow-none [] p 0 h
 run-counted [] p (X ∷ ss) k st h = shallow-none [] p (weights weight (X ∷ ss)) h
 run-counted (t ∷ ts) p [] k st h = shallow-none (t ∷ ts) p 0 h
-run-counted {D} (t ∷ ts) p (X ∷ ss) k (f, l, below) h = go (next X t) refl (λ s st h. run-counted ts t (s .push ++ ss) (λ us. k (made Value s ss us)) st h)
+run-counted (t ∷ ts) p (X ∷ ss) k (f, l, below) h = go (next X t) refl (λ s st h. run-counted ts t (s .push ++ ss) (λ us. k (made Value s ss us)) st h)
   where
     go : (o : Option (Step Value X)) → next X t ≡ o
         → ((s : Step Value X) → Stands t (s .push ++ ss) → weights weight (s .push ++ ss) ≤ mostOpen
         → Counted ts t (weights weight (s .push ++ ss)) (run ts (s .push ++ ss) (λ us. k (made Value s ss us))))
-        → Counted {D = D} (t ∷ ts) p (weights weight (X ∷ ss)) (elim o [
-          | none ↦ refused3 0
-          | some s ↦ elim (decLe (weights weight (s .push ++ ss)) mostOpen) [
-            | yes _ ↦ later (run ts (s .push ++ ss) (λ us. k (made Value s ss us)))
-            | no _ ↦ refused4 0
-          ]
-        ])
+        → Counted (t ∷ ts) p (weights weight (X ∷ ss)) (taking Value next weight mostOpen o ts ss k)
     go none n ih = shallow-none (t ∷ ts) p (weights weight (X ∷ ss)) h
     go (some s) n ih = limit (decLe (weights weight (s .push ++ ss)) mostOpen) (keeps X t s n p f ss l below)
       where
         limit : (d : Dec (weights weight (s .push ++ ss) ≤ mostOpen))
             → (openAt p t (weight X + weights weight ss) ≡ weights weight (s .push ++ ss)) × Stands t (s .push ++ ss)
-            → Counted {D = D} (t ∷ ts) p (weights weight (X ∷ ss)) (elim d [
-              | yes _ ↦ later (run ts (s .push ++ ss) (λ us. k (made Value s ss us)))
-              | no _ ↦ refused4 0
-            ])
+            → Counted (t ∷ ts) p (weights weight (X ∷ ss)) (limited Value next weight mostOpen s d ts ss k)
         limit (yes m) (e, st) = counted-later t ts p (weights weight (X ∷ ss)) h (run ts (s .push ++ ss) (λ us. k (made Value s ss us)))
             (subst (λ n. Counted ts t n (run ts (s .push ++ ss) (λ us. k (made Value s ss us)))) (sym e) (ih s st m))
         limit (no m) (e, st) = (shallow-none (t ∷ ts) p (weights weight (X ∷ ss)) h, omega arith)

@@ -79,28 +79,35 @@ module _ {Symbol Token : Type 0} (Value : Symbol → Type 0) (next : (X : Symbol
     ]
   ]
 
+  -- the verdict where the first token takes the step o, and where the test of the limit is d
+  abbrev pub limited : {D : Type 0} {X : Symbol} {P : Type 0} → Step Value X → Dec P → List Token → (ss : List Symbol) → (Values Value (X ∷ ss) → D) → Verdict D
+  limited s d ts ss k = elim d [
+    | yes _ ↦ later (run ts (s .push ++ ss) (λ us. k (made Value s ss us)))
+    | no _ ↦ refused4 0
+  ]
+
+  abbrev pub taking : {D : Type 0} {X : Symbol} → Option (Step Value X) → List Token → (ss : List Symbol) → (Values Value (X ∷ ss) → D) → Verdict D
+  taking o ts ss k = elim o [
+    | none ↦ refused3 0
+    | some s ↦ limited s (decLe (weights weight (s .push ++ ss)) most) ts ss k
+  ]
+
   module _ {D : Type 0} (X : Symbol) (t : Token) (ts : List Token) (ss : List Symbol) (k : Values Value (X ∷ ss) → D) where
     pub run-none : next X t ≡ none → run (t ∷ ts) (X ∷ ss) k ≡ refused3 0
-    run-none n = rw (n, run)
+    run-none n = ap (λ o. taking o ts ss k) n
 
     pub run-some : (s : Step Value X) → next X t ≡ some s → weights weight (s .push ++ ss) ≤ most
         → run (t ∷ ts) (X ∷ ss) k ≡ later (run ts (s .push ++ ss) (λ us. k (made Value s ss us)))
-    run-some s n h = rw (n, run) (go (decLe (weights weight (s .push ++ ss)) most))
+    run-some s n h = ap (λ o. taking o ts ss k) n ∙ go (decLe (weights weight (s .push ++ ss)) most)
       where
-        go : (d : Dec (weights weight (s .push ++ ss) ≤ most)) → elim d [
-          | yes _ ↦ later (run ts (s .push ++ ss) (λ us. k (made Value s ss us)))
-          | no _ ↦ refused4 0
-        ] ≡ later (run ts (s .push ++ ss) (λ us. k (made Value s ss us)))
+        go : (d : Dec (weights weight (s .push ++ ss) ≤ most)) → limited s d ts ss k ≡ later (run ts (s .push ++ ss) (λ us. k (made Value s ss us)))
         go (yes _) = refl
         go (no l) = absurd (l h)
 
     pub run-deep : (s : Step Value X) → next X t ≡ some s → ¬ (weights weight (s .push ++ ss) ≤ most) → run (t ∷ ts) (X ∷ ss) k ≡ refused4 0
-    run-deep s n h = rw (n, run) (go (decLe (weights weight (s .push ++ ss)) most))
+    run-deep s n h = ap (λ o. taking o ts ss k) n ∙ go (decLe (weights weight (s .push ++ ss)) most)
       where
-        go : (d : Dec (weights weight (s .push ++ ss) ≤ most)) → _≡_ {A = Verdict D} (elim d [
-          | yes _ ↦ later (run ts (s .push ++ ss) (λ us. k (made Value s ss us)))
-          | no _ ↦ refused4 0
-        ]) (refused4 0)
+        go : (d : Dec (weights weight (s .push ++ ss) ≤ most)) → limited s d ts ss k ≡ refused4 0
         go (yes l) = absurd (h l)
         go (no _) = refl
 
@@ -267,20 +274,11 @@ module _ {Symbol Token : Type 0} (Value : Symbol → Type 0) (text : (X : Symbol
         go : (o : Option (Step Value X)) → next X t ≡ o
             → ((s : Step Value X) → weights weight (s .push ++ ss) ≤ most
             → Judged (s .push ++ ss) ts (λ us. k (made Value s ss us)) (run Value next weight most ts (s .push ++ ss) (λ us. k (made Value s ss us))))
-            → Judged (X ∷ ss) (t ∷ ts) k (elim o [
-              | none ↦ refused3 0
-              | some s ↦ elim (decLe (weights weight (s .push ++ ss)) most) [
-                | yes _ ↦ later (run Value next weight most ts (s .push ++ ss) (λ us. k (made Value s ss us)))
-                | no _ ↦ refused4 0
-              ]
-            ])
+            → Judged (X ∷ ss) (t ∷ ts) k (taking Value next weight most o ts ss k)
         go none n ih = (begun (X ∷ ss) h, inl (omega arith, λ (vs, r, e). let (s, us, m, _, _) = taken X t ss vs r e in Option·none-ne-some _ (sym n ∙ m)))
         go (some s) n ih = limit (decLe (weights weight (s .push ++ ss)) most)
           where
-            limit : (d : Dec (weights weight (s .push ++ ss) ≤ most)) → Judged (X ∷ ss) (t ∷ ts) k (elim d [
-              | yes _ ↦ later (run Value next weight most ts (s .push ++ ss) (λ us. k (made Value s ss us)))
-              | no _ ↦ refused4 0
-            ])
+            limit : (d : Dec (weights weight (s .push ++ ss) ≤ most)) → Judged (X ∷ ss) (t ∷ ts) k (limited Value next weight most s d ts ss k)
             limit (yes l) = raise X t ss s n ts k h (run Value next weight most ts (s .push ++ ss) (λ us. k (made Value s ss us))) (ih s l)
             limit (no l) = (
               begun (X ∷ ss) h,
