@@ -13,13 +13,13 @@ use lib.Seq.{take-all}
 use Rattle.laws.specs.Pick.{pick}
 use Rattle.words.specs.Token.{Fixed, Fixed-discrete, END, BEGIN, PROCESS, IF, OPEN, CLOSE, SEMICOLON, THEN}
 use Rattle.words.specs.Token.{Token, name, integer, literal, once, chain, unit, fixed, foreign}
-use Rattle.syntax.specs.Tree.{Primary, expression, plain, alone, enough, Design, designText}
+use Rattle.syntax.specs.Tree.{Primary, expression, plain, alone, enough, immediate, Design, designText}
 use Rattle.syntax.specs.Sentence.{mostOpen, Viable, Stuck, Refused3, Refused4, Verdict, accepted, refused3, refused4, Right}
 use Rattle.syntax.proofs.Machine.{Values, Step, weights, later, made, limited, taking}
-use Rattle.syntax.proofs.Rows.{Place, inBrackets, inCondition, inAssignment, Block, inProcess, inThen, inElse, entityPart, architecturePart, Ending}
+use Rattle.syntax.proofs.Rows.{Place, inBrackets, inCondition, inAssignment, Block, inProcess, inThen, inElse, entityPart, architecturePart}
 use Rattle.syntax.proofs.Rows.{Symbol, aDesign, aName, anInteger, aLiteral, aUnit, aFactor, aPrimary, theWord, signals, moreSignals, initialValue, processes, processBody, moreListed, beginning, closingName, closing, statements, closingIf, anExpression, aTail, aMore, anEnd}
-use Rattle.syntax.proofs.Rows.{Value, rows, next, endRows, closeRows, primaryRows, Every, found}
-use Rattle.syntax.proofs.Nesting.{placeWeight, weight}
+use Rattle.syntax.proofs.Rows.{Value, Row, row, rows, next, renamed, wordRows, closingNameRows, endRows, closeRows, primaryRows, Every, found}
+use Rattle.syntax.proofs.Nesting.{weight}
 use Rattle.syntax.proofs.Theorem.{run, read, read-right, one-tree, one-verdict, viable-within, not-stuck, last-viable, one-stuck}
 
 -- COUNTING
@@ -170,12 +170,27 @@ Keeps X t s = (p : Token) → Follows X p → (ss : List Symbol) → Level X (we
 behind : (P : Token → Type 0) {w : Fixed} {q : Token} → q ≡ fixed w → P (fixed w) → P q
 behind P e h = subst P (sym e) h
 
-end-keeps : (X : Symbol) (c : Place) (f : Ending c → Value X) → weight X ≡ placeWeight c → ((q : Token) → Calm q → Ends X q) → Every (Keeps X) (endRows X c f)
-end-keeps X inBrackets f e l = (λ a p _ ss _ below. (omega arith, below (fixed CLOSE) (l _ (λ n. refl, λ n. refl))), tt)
-end-keeps X inCondition f e l = (λ a p _ ss _ below. (omega arith, below (fixed THEN) (l _ (λ n. refl, λ n. refl))), tt)
-end-keeps X inAssignment f e l = (
-  λ a p _ ss _ below. (omega arith, below (fixed SEMICOLON) (l _ (λ n. refl, λ n. refl))),
-  (λ a p _ ss _ below. (omega arith, (tt, tt, λ _ _. (tt, tt, λ _ _. (λ n. refl, tt, λ q z. below q (l q (behind Calm z (λ n. refl, λ n. refl))))))), tt),
+renamed-keeps : (X Y : Symbol) (g : Value Y → Value X) (rs : List (Row Y)) → weight X ≡ weight Y → ((p : Token) → Follows X p → Follows Y p)
+    → ((w : ℕ) → Level X w → Level Y w) → ((q : Token) → Ends Y q → Ends X q) → Every (Keeps Y) rs → Every (Keeps X) (renamed g rs)
+renamed-keeps X Y g [] e f l z h = tt
+renamed-keeps X Y g (row c ys b ∷ rs) e f l z h =
+    (λ a p i ss j below. rw e (h .0 a p (f p i) ss (l _ j) (λ q k. below q (z q k))), renamed-keeps X Y g rs e f l z (h .1))
+
+word-keeps : (w : Fixed) → Every (Keeps (theWord w)) (wordRows w)
+word-keeps w = (λ a p f ss _ below. (f _ ∙ omega arith, below (fixed w) refl), tt)
+
+closing-name-keeps : Every (Keeps closingName) closingNameRows
+closing-name-keeps = (
+  λ a p _ ss _ below. (omega arith, (λ n. refl, tt, λ q z. below q (behind Calm z (λ n. refl, λ n. refl)))),
+  renamed-keeps closingName (theWord SEMICOLON) (λ _. none) (wordRows SEMICOLON) refl (λ p _ n. refl) (λ w _. tt) (λ q z. behind Calm z (λ n. refl, λ n. refl)) (word-keeps SEMICOLON),
+)
+
+end-keeps : (c : Place) → Every (Keeps (anEnd c)) (endRows c)
+end-keeps inBrackets = (λ a p _ ss _ below. (omega arith, below (fixed CLOSE) (λ n. refl, λ n. refl)), tt)
+end-keeps inCondition = renamed-keeps (anEnd inCondition) (theWord THEN) (λ v. v) (wordRows THEN) refl (λ p _ n. refl) (λ w _. tt) (λ q z. behind Calm z (λ n. refl, λ n. refl)) (word-keeps THEN)
+end-keeps inAssignment = (
+  λ a p _ ss _ below. (omega arith, (tt, tt, λ _ _. (tt, tt, λ _ _. (λ n. refl, tt, λ q z. below q (behind Calm z (λ n. refl, λ n. refl)))))),
+  renamed-keeps (anEnd inAssignment) (theWord SEMICOLON) (λ _. immediate) (wordRows SEMICOLON) refl (λ p _ n. refl) (λ w _. tt) (λ q z. behind Calm z (λ n. refl, λ n. refl)) (word-keeps SEMICOLON),
 )
 
 primary-keeps : (X : Symbol) (ys : List Symbol) (f : Primary → Values Value ys → Value X) → ((p : Token) → Follows X p → Calm p)
@@ -241,10 +256,11 @@ rows-keep aLiteral = (λ a p _ ss _ below. (omega arith, below (literal a) (λ n
 rows-keep aUnit = (λ a p _ ss _ below. (omega arith, below (unit a) (λ n. refl, λ n. refl)), tt)
 rows-keep aFactor = (
   λ a p _ ss _ below. (omega arith, ((λ n. refl, λ n. refl), tt, below)),
-  primary-keeps aFactor [] (λ v _. plain v) (λ p h. h) (λ ss. omega arith) (λ ss below. below),
+  renamed-keeps aFactor aPrimary plain (primaryRows aPrimary [] (λ v _. v)) refl (λ p h. h) (λ w _. tt) (λ q z. z)
+      (primary-keeps aPrimary [] (λ v _. v) (λ p h. h) (λ ss. omega arith) (λ ss below. below)),
 )
 rows-keep aPrimary = primary-keeps aPrimary [] (λ v _. v) (λ p h. h) (λ ss. omega arith) (λ ss below. below)
-rows-keep (theWord w) = (λ a p f ss _ below. (f _ ∙ omega arith, below (fixed w) refl), tt)
+rows-keep (theWord w) = word-keeps w
 rows-keep signals = (
   λ a p _ ss _ below. (omega arith, (tt, tt, λ _ _. (tt, tt, λ _ _. (tt, tt, below)))),
   (λ a p _ ss _ below. (omega arith, below (fixed BEGIN) (λ n. refl, λ n. refl)), tt),
@@ -255,7 +271,7 @@ rows-keep moreSignals = (
 )
 rows-keep initialValue = (
   λ a p _ ss _ below. (omega arith, (tt, tt, λ _ _. (λ n. refl, tt, λ q z. below q (behind Calm z (λ n. refl, λ n. refl))))),
-  (λ a p _ ss _ below. (omega arith, below (fixed SEMICOLON) (λ n. refl, λ n. refl)), tt),
+  renamed-keeps initialValue (theWord SEMICOLON) (λ _. none) (wordRows SEMICOLON) refl (λ p _ n. refl) (λ w _. tt) (λ q z. behind Calm z (λ n. refl, λ n. refl)) (word-keeps SEMICOLON),
 )
 rows-keep processes = (
   λ a p _ ss h below. (
@@ -280,25 +296,16 @@ rows-keep moreListed = (
 )
 rows-keep beginning = (
   λ a p _ ss _ below. (omega arith, (λ n. refl, tt, λ q z. below q (behind Calm z (λ n. refl, λ n. refl)))),
-  (λ a p _ ss _ below. (omega arith, below (fixed BEGIN) (λ n. refl, λ n. refl)), tt),
+  renamed-keeps beginning (theWord BEGIN) (λ _. false) (wordRows BEGIN) refl (λ p _ n. refl) (λ w _. tt) (λ q z. behind Calm z (λ n. refl, λ n. refl)) (word-keeps BEGIN),
 )
-rows-keep closingName = (
-  λ a p _ ss _ below. (omega arith, (λ n. refl, tt, λ q z. below q (behind Calm z (λ n. refl, λ n. refl)))),
-  (λ a p _ ss _ below. (omega arith, below (fixed SEMICOLON) (λ n. refl, λ n. refl)), tt),
-)
+rows-keep closingName = closing-name-keeps
 rows-keep (closing entityPart) = (
   λ a p _ ss _ below. (omega arith, (tt, tt, below)),
-  (
-    λ a p _ ss _ below. (omega arith, (λ n. refl, tt, λ q z. below q (behind Calm z (λ n. refl, λ n. refl)))),
-    (λ a p _ ss _ below. (omega arith, below (fixed SEMICOLON) (λ n. refl, λ n. refl)), tt),
-  ),
+  renamed-keeps (closing entityPart) closingName (λ o. (false, o)) closingNameRows refl (λ p _. tt) (λ w _. tt) (λ q z. z) closing-name-keeps,
 )
 rows-keep (closing architecturePart) = (
   λ a p _ ss _ below. (omega arith, (tt, tt, below)),
-  (
-    λ a p _ ss _ below. (omega arith, (λ n. refl, tt, λ q z. below q (behind Calm z (λ n. refl, λ n. refl)))),
-    (λ a p _ ss _ below. (omega arith, below (fixed SEMICOLON) (λ n. refl, λ n. refl)), tt),
-  ),
+  renamed-keeps (closing architecturePart) closingName (λ o. (false, o)) closingNameRows refl (λ p _. tt) (λ w _. tt) (λ q z. z) closing-name-keeps,
 )
 rows-keep (statements b) = (
   λ a p _ ss _ below. (
@@ -317,13 +324,13 @@ rows-keep (anExpression c) = (
 )
 rows-keep (aTail c) = (
   λ a p _ ss _ below. (omega arith, ((λ n. refl, λ n. refl), tt, λ _ _. (tt, tt, below))),
-  (λ a p _ ss _ below. (omega arith, ((λ n. refl, λ n. refl), tt, λ _ _. (tt, tt, below))), end-keeps (aTail c) c (λ a. (alone, a)) refl (λ q z. z)),
+  (λ a p _ ss _ below. (omega arith, ((λ n. refl, λ n. refl), tt, λ _ _. (tt, tt, below))), renamed-keeps (aTail c) (anEnd c) (λ a. (alone, a)) (endRows c) refl (λ p h. h) (λ w h. h) (λ q z. z) (end-keeps c)),
 )
 rows-keep (aMore d c) = (
   λ a p _ ss _ below. (omega arith, ((λ n. refl, λ n. refl), tt, λ _ _. (tt, tt, below))),
-  end-keeps (aMore d c) c (λ a. (enough, a)) refl (λ q z. z),
+  renamed-keeps (aMore d c) (anEnd c) (λ a. (enough, a)) (endRows c) refl (λ p h. h) (λ w h. h) (λ q z. z) (end-keeps c),
 )
-rows-keep (anEnd c) = end-keeps (anEnd c) c (λ a. a) refl (λ q z. z)
+rows-keep (anEnd c) = end-keeps c
 
 keeps : (X : Symbol) (t : Token) (s : Step Value X) → next X t ≡ some s → Keeps X t s
 keeps X t s n = found (Keeps X) (rows X) (rows-keep X) t s n

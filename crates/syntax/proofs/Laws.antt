@@ -16,18 +16,28 @@ use Rattle.syntax.specs.Tree.{declaration, unlisted, listed, process, de
 use Rattle.syntax.proofs.Machine.{Values, Step, texts}
 use Rattle.syntax.proofs.Rows.{Place, inBrackets, inCondition, inAssignment, Block, inProcess, inThen, inElse, Part, entityPart, architecturePart, Ending, Closing, endingText}
 use Rattle.syntax.proofs.Rows.{Symbol, aDesign, aName, anInteger, aLiteral, aUnit, aFactor, aPrimary, theWord, signals, moreSignals, initialValue, processes, processBody, moreListed, beginning, closingName, closing, statements, closingIf, anExpression, aTail, aMore, anEnd}
-use Rattle.syntax.proofs.Rows.{Value, text, Row, rows, next, endRows, closeRows, primaryRows, fixed-fits, Every, found}
+use Rattle.syntax.proofs.Rows.{Value, text, Row, row, rows, next, renamed, wordRows, closingNameRows, endRows, closeRows, primaryRows, fixed-fits, Every, found}
 
 -- A ROW HAS THE TEXT OF ITS SYMBOL
 
 abbrev pub Sound : (X : Symbol) → Token → Step Value X → Type 0
 Sound X t s = (ws : Values Value (s .push)) (r : List Token) → text X (s .build ws) r ≡ t ∷ texts Value text (s .push) ws r
 
-end-sound : (X : Symbol) (c : Place) (f : Ending c → Value X) → ((a : Ending c) (r : List Token) → text X (f a) r ≡ endingText c a r)
-    → Every (Sound X) (endRows X c f)
-end-sound X inBrackets f h = (λ a ws r. h tt r, tt)
-end-sound X inCondition f h = (λ a ws r. h tt r, tt)
-end-sound X inAssignment f h = (λ a ws r. h immediate r, (λ a ws r. h (after (ws .0) (ws .1 .0)) r, tt))
+renamed-sound : (X Y : Symbol) (g : Value Y → Value X) (rs : List (Row Y)) → ((v : Value Y) (r : List Token) → text X (g v) r ≡ text Y v r)
+    → Every (Sound Y) rs → Every (Sound X) (renamed g rs)
+renamed-sound X Y g [] e h = tt
+renamed-sound X Y g (row c ys b ∷ rs) e h = (λ a ws r. e (b a ws) r ∙ h .0 a ws r, renamed-sound X Y g rs e (h .1))
+
+word-sound : (w : Fixed) → Every (Sound (theWord w)) (wordRows w)
+word-sound w = (λ a ws r. refl, tt)
+
+closing-name-sound : Every (Sound closingName) closingNameRows
+closing-name-sound = (λ a ws r. refl, renamed-sound closingName (theWord SEMICOLON) (λ _. none) (wordRows SEMICOLON) (λ v r. refl) (word-sound SEMICOLON))
+
+end-sound : (c : Place) → Every (Sound (anEnd c)) (endRows c)
+end-sound inBrackets = renamed-sound (anEnd inBrackets) (theWord CLOSE) (λ v. v) (wordRows CLOSE) (λ v r. refl) (word-sound CLOSE)
+end-sound inCondition = renamed-sound (anEnd inCondition) (theWord THEN) (λ v. v) (wordRows THEN) (λ v r. refl) (word-sound THEN)
+end-sound inAssignment = (λ a ws r. refl, renamed-sound (anEnd inAssignment) (theWord SEMICOLON) (λ _. immediate) (wordRows SEMICOLON) (λ v r. refl) (word-sound SEMICOLON))
 
 primary-sound : (X : Symbol) (ys : List Symbol) (f : Primary → Values Value ys → Value X)
     → ((p : Primary) (ws : Values Value ys) (r : List Token) → text X (f p ws) r ≡ primaryText p (texts Value text ys ws r))
@@ -45,24 +55,24 @@ rows-sound aName = (λ a ws r. refl, tt)
 rows-sound anInteger = (λ a ws r. refl, tt)
 rows-sound aLiteral = (λ a ws r. refl, tt)
 rows-sound aUnit = (λ a ws r. refl, tt)
-rows-sound aFactor = (λ a ws r. refl, primary-sound aFactor [] (λ p _. plain p) (λ p ws r. refl))
+rows-sound aFactor = (λ a ws r. refl, renamed-sound aFactor aPrimary plain (primaryRows aPrimary [] (λ p _. p)) (λ p r. refl) (primary-sound aPrimary [] (λ p _. p) (λ p ws r. refl)))
 rows-sound aPrimary = primary-sound aPrimary [] (λ p _. p) (λ p ws r. refl)
-rows-sound (theWord w) = (λ a ws r. refl, tt)
+rows-sound (theWord w) = word-sound w
 rows-sound signals = (λ a ws r. refl, (λ a ws r. refl, tt))
 rows-sound moreSignals = (λ a ws r. refl, (λ a ws r. refl, tt))
-rows-sound initialValue = (λ a ws r. refl, (λ a ws r. refl, tt))
+rows-sound initialValue = (λ a ws r. refl, renamed-sound initialValue (theWord SEMICOLON) (λ _. none) (wordRows SEMICOLON) (λ v r. refl) (word-sound SEMICOLON))
 rows-sound processes = (λ a ws r. refl, (λ a ws r. refl, (λ a ws r. refl, tt)))
 rows-sound processBody = (λ a ws r. refl, (λ a ws r. refl, (λ a ws r. refl, tt)))
 rows-sound moreListed = (λ a ws r. refl, (λ a ws r. refl, tt))
-rows-sound beginning = (λ a ws r. refl, (λ a ws r. refl, tt))
-rows-sound closingName = (λ a ws r. refl, (λ a ws r. refl, tt))
-rows-sound (closing u) = (λ a ws r. refl, (λ a ws r. refl, (λ a ws r. refl, tt)))
+rows-sound beginning = (λ a ws r. refl, renamed-sound beginning (theWord BEGIN) (λ _. false) (wordRows BEGIN) (λ v r. refl) (word-sound BEGIN))
+rows-sound closingName = closing-name-sound
+rows-sound (closing u) = (λ a ws r. refl, renamed-sound (closing u) closingName (λ o. (false, o)) closingNameRows (λ o r. refl) closing-name-sound)
 rows-sound (statements b) = (λ a ws r. refl, (λ a ws r. refl, (λ a ws r. refl, close-sound b)))
 rows-sound closingIf = (λ a ws r. refl, tt)
 rows-sound (anExpression c) = (λ a ws r. refl, primary-sound (anExpression c) (aTail c ∷ []) (λ p ws. (expression (plain p) (ws .0 .0), ws .0 .1)) (λ p ws r. refl))
-rows-sound (aTail c) = (λ a ws r. refl, (λ a ws r. refl, end-sound (aTail c) c (λ a. (alone, a)) (λ a r. refl)))
-rows-sound (aMore d c) = (λ a ws r. refl, end-sound (aMore d c) c (λ a. (enough, a)) (λ a r. refl))
-rows-sound (anEnd c) = end-sound (anEnd c) c (λ a. a) (λ a r. refl)
+rows-sound (aTail c) = (λ a ws r. refl, (λ a ws r. refl, renamed-sound (aTail c) (anEnd c) (λ a. (alone, a)) (endRows c) (λ a r. refl) (end-sound c)))
+rows-sound (aMore d c) = (λ a ws r. refl, renamed-sound (aMore d c) (anEnd c) (λ a. (enough, a)) (endRows c) (λ a r. refl) (end-sound c))
+rows-sound (anEnd c) = end-sound c
 
 pub sound : (X : Symbol) (t : Token) (s : Step Value X) → next X t ≡ some s → Sound X t s
 sound X t s n = found (Sound X) (rows X) (rows-sound X) t s n

@@ -232,12 +232,23 @@ abbrev pub find : {X : Symbol} → List (Row X) → Token → Option (Step Value
 find [] t = none
 find (row c ys b ∷ rs) t = elim (fits c t) [ none ↦ find rs t | some a ↦ some record { push = ys (a .0); build = b (a .0) } ]
 
+-- the rows of Y for X, where g makes X's value of Y's: what X may begin with is missing, and Y must follow
+abbrev pub renamed : {X Y : Symbol} → (Value Y → Value X) → List (Row Y) → List (Row X)
+renamed g [] = []
+renamed g (row c ys b ∷ rs) = row c ys (λ a ws. g (b a ws)) ∷ renamed g rs
+
+abbrev pub wordRows : (w : Fixed) → List (Row (theWord w))
+wordRows w = row (theFixed w) (λ _. []) (λ _ _. tt) ∷ []
+
+abbrev pub closingNameRows : List (Row closingName)
+closingNameRows = row anyName (λ _. theWord SEMICOLON ∷ []) (λ n _. some n) ∷ renamed (λ _. none) (wordRows SEMICOLON)
+
 -- what must follow an expression
-abbrev pub endRows : (X : Symbol) (c : Place) → (Ending c → Value X) → List (Row X)
-endRows X inBrackets f = row (theFixed CLOSE) (λ _. []) (λ _ _. f tt) ∷ []
-endRows X inCondition f = row (theFixed THEN) (λ _. []) (λ _ _. f tt) ∷ []
-endRows X inAssignment f = row (theFixed SEMICOLON) (λ _. []) (λ _ _. f immediate)
-    ∷ row (theFixed AFTER) (λ _. anInteger ∷ aUnit ∷ theWord SEMICOLON ∷ []) (λ _ ws. f (after (ws .0) (ws .1 .0))) ∷ []
+abbrev pub endRows : (c : Place) → List (Row (anEnd c))
+endRows inBrackets = renamed (λ v. v) (wordRows CLOSE)
+endRows inCondition = renamed (λ v. v) (wordRows THEN)
+endRows inAssignment = row (theFixed AFTER) (λ _. anInteger ∷ aUnit ∷ theWord SEMICOLON ∷ []) (λ _ ws. after (ws .0) (ws .1 .0))
+    ∷ renamed (λ _. immediate) (wordRows SEMICOLON)
 
 -- what closes statements
 abbrev pub closeRows : (b : Block) → List (Row (statements b))
@@ -265,15 +276,14 @@ rows aName = row anyName (λ _. []) (λ n _. n) ∷ []
 rows anInteger = row anyInteger (λ _. []) (λ n _. n) ∷ []
 rows aLiteral = row anyLiteral (λ _. []) (λ b _. b) ∷ []
 rows aUnit = row anyUnit (λ _. []) (λ u _. u) ∷ []
-rows aFactor = row (theFixed NOT) (λ _. aPrimary ∷ []) (λ _ ws. negated (ws .0)) ∷ primaryRows aFactor [] (λ p _. plain p)
+rows aFactor = row (theFixed NOT) (λ _. aPrimary ∷ []) (λ _ ws. negated (ws .0)) ∷ renamed plain (primaryRows aPrimary [] (λ p _. p))
 rows aPrimary = primaryRows aPrimary [] (λ p _. p)
-rows (theWord w) = row (theFixed w) (λ _. []) (λ _ _. tt) ∷ []
+rows (theWord w) = wordRows w
 rows signals = row (theFixed SIGNAL) (λ _. aName ∷ moreSignals ∷ signals ∷ []) (λ _ ws. declaration (ws .0) (ws .1 .0 .0) (ws .1 .0 .1) ∷ ws .1 .1 .0)
     ∷ row (theFixed BEGIN) (λ _. []) (λ _ _. []) ∷ []
 rows moreSignals = row (theFixed COMMA) (λ _. aName ∷ moreSignals ∷ []) (λ _ ws. (ws .0 ∷ ws .1 .0 .0, ws .1 .0 .1))
     ∷ row (theFixed COLON) (λ _. theWord BOOLEAN ∷ initialValue ∷ []) (λ _ ws. ([], ws .1 .0)) ∷ []
-rows initialValue = row (theFixed BECOMES) (λ _. aLiteral ∷ theWord SEMICOLON ∷ []) (λ _ ws. some (ws .0))
-    ∷ row (theFixed SEMICOLON) (λ _. []) (λ _ _. none) ∷ []
+rows initialValue = row (theFixed BECOMES) (λ _. aLiteral ∷ theWord SEMICOLON ∷ []) (λ _ ws. some (ws .0)) ∷ renamed (λ _. none) (wordRows SEMICOLON)
 rows processes = row anyName (λ _. theWord COLON ∷ theWord PROCESS ∷ processBody ∷ processes ∷ []) (λ n ws. labelled (some n) (ws .1 .1 .0) ∷ ws .1 .1 .1 .0)
     ∷ row (theFixed PROCESS) (λ _. processBody ∷ processes ∷ []) (λ _ ws. labelled none (ws .0) ∷ ws .1 .0)
     ∷ row (theFixed END) (λ _. []) (λ _ _. []) ∷ []
@@ -282,10 +292,9 @@ rows processBody = row (theFixed OPEN) (λ _. aName ∷ moreListed ∷ beginning
     ∷ row (theFixed IS) (λ _. theWord BEGIN ∷ statements inProcess ∷ []) (λ _ ws. (unlisted, (true, ws .1 .0)))
     ∷ row (theFixed BEGIN) (λ _. statements inProcess ∷ []) (λ _ ws. (unlisted, (false, ws .0))) ∷ []
 rows moreListed = row (theFixed COMMA) (λ _. aName ∷ moreListed ∷ []) (λ _ ws. ws .0 ∷ ws .1 .0) ∷ row (theFixed CLOSE) (λ _. []) (λ _ _. []) ∷ []
-rows beginning = row (theFixed IS) (λ _. theWord BEGIN ∷ []) (λ _ _. true) ∷ row (theFixed BEGIN) (λ _. []) (λ _ _. false) ∷ []
-rows closingName = row anyName (λ _. theWord SEMICOLON ∷ []) (λ n _. some n) ∷ row (theFixed SEMICOLON) (λ _. []) (λ _ _. none) ∷ []
-rows (closing u) = row (theFixed (partWord u)) (λ _. closingName ∷ []) (λ _ ws. (true, ws .0))
-    ∷ row anyName (λ _. theWord SEMICOLON ∷ []) (λ n _. (false, some n)) ∷ row (theFixed SEMICOLON) (λ _. []) (λ _ _. (false, none)) ∷ []
+rows beginning = row (theFixed IS) (λ _. theWord BEGIN ∷ []) (λ _ _. true) ∷ renamed (λ _. false) (wordRows BEGIN)
+rows closingName = closingNameRows
+rows (closing u) = row (theFixed (partWord u)) (λ _. closingName ∷ []) (λ _ ws. (true, ws .0)) ∷ renamed (λ o. (false, o)) closingNameRows
 rows (statements b) = row anyName (λ _. theWord ARROW ∷ theWord TRANSPORT ∷ anExpression inAssignment ∷ statements b ∷ [])
     (λ n ws. (also (assignment n (ws .1 .1 .0 .0) (ws .1 .1 .0 .1)) (ws .1 .1 .1 .0 .0), ws .1 .1 .1 .0 .1))
     ∷ row (theFixed IF) (λ _. anExpression inCondition ∷ statements inThen ∷ statements b ∷ [])
@@ -297,10 +306,10 @@ rows (anExpression c) = row (theFixed NOT) (λ _. aPrimary ∷ aTail c ∷ []) (
     ∷ primaryRows (anExpression c) (aTail c ∷ []) (λ p ws. (expression (plain p) (ws .0 .0), ws .0 .1))
 rows (aTail c) = row anyOnce (λ _. aFactor ∷ anEnd c ∷ []) (λ o ws. (joined o (ws .0), ws .1 .0))
     ∷ row anyChain (λ d. aFactor ∷ aMore d c ∷ []) (λ d ws. (chained d (ws .0) (ws .1 .0 .0), ws .1 .0 .1))
-    ∷ endRows (aTail c) c (λ a. (alone, a))
+    ∷ renamed (λ a. (alone, a)) (endRows c)
 rows (aMore d c) = row (theChain d) (λ _. aFactor ∷ aMore d c ∷ []) (λ _ ws. (more (ws .0) (ws .1 .0 .0), ws .1 .0 .1))
-    ∷ endRows (aMore d c) c (λ a. (enough, a))
-rows (anEnd c) = endRows (anEnd c) c (λ a. a)
+    ∷ renamed (λ a. (enough, a)) (endRows c)
+rows (anEnd c) = endRows c
 
 -- what a symbol does with a token
 abbrev pub next : (X : Symbol) → Token → Option (Step Value X)
