@@ -1,3 +1,4 @@
--- What a text is: trees, the tokens of a tree, and the circuit that a tree stands for.
+-- What a text is: trees, the tokens of a tree, which tokens are a design, and the circuit that a tree stands for.
 pub mod Tree
+pub mod Sentence
 pub mod Circuit

@@ -1,0 +1,8 @@
+-- The grammar as a stack machine, and the theorems on refusals 3 and 4.
+pub mod Machine
+pub mod Rows
+pub mod Laws
+pub mod Nesting
+pub mod Theorem
+pub mod Counting
+pub mod Examples
