@@ -1,0 +1,4 @@
+-- That a translation does what its circuit does, that it is fit, and what holds of every fit table.
+pub mod Tabulated
+pub mod Translating
+pub mod Faithful
