@@ -44,7 +44,7 @@ posts-formula (constant b) is k = refl
 posts-formula (negated e) is k = posts-formula e (negation ∷ is) k
 posts-formula (combined o a b) is k = posts-formula a (formulaCode b (binary o ∷ is)) k ∙ posts-formula b (binary o ∷ is) k
 
-posts-code : (ss : Actions) (x : ℕ) (is : List Instruction) (k : ℕ) → posts (code x ss is) k ≡ (assigns ss k || posts is k)
+pub posts-code : (ss : Actions) (x : ℕ) (is : List Instruction) (k : ℕ) → posts (code x ss is) k ≡ (assigns ss k || posts is k)
 unfolding code posts assigns
 posts-code done x is k = refl
 posts-code (assign i e d ss) x is k = simp (posts-formula, posts-code ss, or-assoc)
@@ -52,7 +52,7 @@ posts-code (branch e a b ss) x is k = simp (posts-formula, posts-code a, posts-c
 posts-code (null ss) x is k = posts-code ss x is k
 
 -- where process p begins, and its code
-base : List Activity → ℕ → ℕ
+unfoldable pub base : List Activity → ℕ → ℕ
 base l p = total (take p l)
 
 length-ends : (l : List Activity) (x : ℕ) → length (endsFrom x l) ≡ length l
@@ -66,13 +66,13 @@ end-at [] x p h = absurd (omega arith)
 end-at (a ∷ l) x zero h = omega arith
 end-at (a ∷ l) x (suc p) h = omega (arith, end-at l (x + instructions (a .body)) p (omega arith))
 
-base-next : (l : List Activity) (p : ℕ) → p < length l → base l (suc p) ≡ base l p + instructions (getD l p idle .body)
+pub base-next : (l : List Activity) (p : ℕ) → p < length l → base l (suc p) ≡ base l p + instructions (getD l p idle .body)
 unfolding base total
 base-next [] p h = absurd (omega arith)
 base-next (a ∷ l) zero h = omega arith
 base-next (a ∷ l) (suc p) h = omega (arith, base-next l p (omega arith))
 
-begin-at : (c : Circuit) (p : ℕ) → p ≤ length (c .processes) → begins (translate c) p ≡ base (c .processes) p
+pub begin-at : (c : Circuit) (p : ℕ) → p ≤ length (c .processes) → begins (translate c) p ≡ base (c .processes) p
 unfolding translate base total
 begin-at c zero h = refl
 begin-at c (suc p) h = omega (arith, end-at (c .processes) 0 p (omega arith))

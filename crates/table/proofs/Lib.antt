@@ -2,3 +2,5 @@
 pub mod Tabulated
 pub mod Translating
 pub mod Faithful
+pub mod Heights
+pub mod Fitting
