@@ -24,11 +24,11 @@ onward₂ (refuses r) f k g h e = refl
 onward₂ (gives a) f k g h e = e a
 
 -- what is given, if anything, has this property
-pub data Gives {A : Type 0} (P : A → Type 0) : Outcome A → Type 0 where
-  refusal : (r : Prim.Native.Nat.ℕ) → Gives P (refuses r)
-  given : {a : A} → P a → Gives P (gives a)
+abbrev pub Gives : {A : Type 0} → (A → Type 0) → Outcome A → Type 0
+Gives P (refuses r) = Unit {0}
+Gives P (gives a) = P a
 
-pub gives-then : {A B : Type 0} {P : A → Type 0} {Q : B → Type 0} (o : Outcome A) (f : A → Outcome B)
+pub gives-then : {A B : Type 0} (P : A → Type 0) (Q : B → Type 0) (o : Outcome A) (f : A → Outcome B)
     → Gives P o → ((a : A) → P a → Gives Q (f a)) → Gives Q (o then f)
-gives-then (refuses r) f g h = refusal r
-gives-then (gives a) f (given p) h = h a p
+gives-then P Q (refuses r) f g h = tt
+gives-then P Q (gives a) f g h = h a g

@@ -4,3 +4,4 @@ pub mod Translating
 pub mod Faithful
 pub mod Heights
 pub mod Fitting
+pub mod Running
