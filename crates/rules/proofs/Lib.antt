@@ -1,2 +1,4 @@
 -- Laws of the rules.
 pub mod Outcomes
+pub mod Overlays
+pub mod Threads

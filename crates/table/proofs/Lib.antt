@@ -5,3 +5,4 @@ pub mod Faithful
 pub mod Heights
 pub mod Fitting
 pub mod Running
+pub mod Local
