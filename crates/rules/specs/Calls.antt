@@ -51,7 +51,7 @@ module _ (rs : List Runner) where
   -- cycles at t while something is pending there; refused 16 where one more than so many would begin
   unfoldable pub cycles : ℕ → ℕ → Progress → Outcome Progress
   cycles zero t m = pick (due t (m .session .pending)) (refuses 16) (gives m)
-  cycles (suc more) t m = elim (due t (m .session .pending)) [ true ↦ cycle t m then (λ k. cycles more t k) | false ↦ gives m ]
+  cycles (suc more) t m = let next = cycle t m then (λ k. cycles more t k) in pick (due t (m .session .pending)) next (gives m)
 
   -- every process runs once, which is no cycle; then cycles at 0
   unfoldable pub started : Values → Outcome Progress

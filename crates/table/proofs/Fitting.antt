@@ -20,7 +20,7 @@ use Rattle.table.proofs.Faithful.{as-many, base, base-next, begin-at, p
 use Rattle.table.proofs.Heights.{sound-code}
 
 -- all instructions exist
-AllExist : ℕ → List Instruction → Type 0
+unfoldable pub AllExist : ℕ → List Instruction → Type 0
 AllExist n [] = Unit {0}
 AllExist n (i ∷ is) = Exists n i × AllExist n is
 

@@ -12,9 +12,9 @@ use Rattle.rules.specs.Outcome.{Outcome, refuses, gives, _then_}
 use Rattle.rules.specs.Formulas.{Values}
 use Rattle.rules.specs.Pending.{Pending, change, post}
 use Rattle.rules.specs.Runner.{Left, Runner, over, joined}
-use Rattle.rules.proofs.Outcomes.{split, Gives}
-use Rattle.rules.proofs.Overlays.{over-post, length-post}
-use Rattle.rules.proofs.Threads.{threaded, laid, Local, Apart, Single, threaded-joined}
+use Rattle.table.proofs.Outcomes.{split, Gives}
+use Rattle.table.proofs.Overlays.{over-post, length-post}
+use Rattle.table.proofs.Threads.{threaded, laid, Local, Apart, Single, threaded-joined}
 use Rattle.table.specs.Instructions.{Instruction, name, literal, negation, binary, assignment, test, skip}
 use Rattle.table.specs.Machine.{top, pop, Next, next, does, walk}
 use Rattle.table.specs.Table.{Table, tabulate, begins, part, posts, runner, runners}

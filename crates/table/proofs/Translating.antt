@@ -11,7 +11,7 @@ use Rattle.rules.specs.Formulas.{Values, value, size}
 use Rattle.rules.specs.Pending.{Pending, change, post}
 use Rattle.rules.specs.Statements.{after, steps}
 use Rattle.rules.specs.Sized.{instructions}
-use Rattle.rules.proofs.Outcomes.{split, onward, onward₂}
+use Rattle.table.proofs.Outcomes.{split, onward, onward₂}
 use Rattle.table.specs.Instructions.{Instruction, negation, binary}
 use Rattle.table.specs.Machine.{does, walk}
 use Rattle.table.specs.Translation.{formulaCode, code}

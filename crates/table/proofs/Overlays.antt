@@ -7,11 +7,11 @@ use mathlib.Core.List.{List, [], _∷_, _++_}
 use lib.Dec.{ltb}
 use lib.ListN.{length, getD, set, length-set}
 use Rattle.laws.specs.Pick.{pick}
 use Rattle.rules.specs.Sizes.{mostPending}
 use Rattle.rules.specs.Outcome.{Outcome, refuses, gives, _then_}
 use Rattle.rules.specs.Pending.{Change, Pending, before, post}
 use Rattle.rules.specs.Runner.{over}
-use Rattle.rules.proofs.Outcomes.{split, Gives}
+use Rattle.table.proofs.Outcomes.{split, Gives}
 
 pub length-over : (d : ℕ → Bool) (q p : Pending) → length (over d q p) ≡ length p
 unfolding over

@@ -1,4 +1,0 @@
--- Laws of the rules.
-pub mod Outcomes
-pub mod Overlays
-pub mod Threads
