@@ -4,7 +4,7 @@ use mathlib.Core.Path.{_≡_, refl, sym, ap, _∙_, subst}
 use mathlib.Core.Bool.{Bool, true, false}
 use mathlib.Core.Option.{Option, none, some}
 use mathlib.Core.List.{List, [], _∷_, _++_, append-assoc}
-use mathlib.Core.Logic.{_↔_, inl, inr}
+use mathlib.Core.Logic.{_↔_}
 use Prim.Native.Nat.{ℕ, zero, suc, _+_, _-_, _<_, _≤_}
 use native.Mathlib.Omega.{arith}
 use native.Mathlib.Decide.{decLe}
@@ -14,7 +14,7 @@ use Rattle.laws.specs.Pick.{pick}
 use Rattle.words.specs.Token.{Fixed, Fixed-discrete, END, BEGIN, PROCESS, IF, OPEN, CLOSE, SEMICOLON, THEN}
 use Rattle.words.specs.Token.{Token, name, integer, literal, once, chain, unit, fixed, foreign}
 use Rattle.syntax.specs.Tree.{expression, plain, alone, enough, immediate, unlisted, Design, designText}
-use Rattle.syntax.specs.Sentence.{mostOpen, Viable, Stuck, Refused3, Refused4, Verdict, accepted, refused3, refused4, Right}
+use Rattle.syntax.specs.Sentence.{mostOpen, Viable, Stuck, Verdict, accepted, refused3, refused4, Right}
 use Rattle.syntax.proofs.Machine.{Values, Step, weights, weights-append, later, made, limited, taking}
 use Rattle.syntax.proofs.Rows.{Place, inBrackets, inCondition, inAssignment, Block, inProcess, inThen, inElse, entityPart, architecturePart}
 use Rattle.syntax.proofs.Rows.{Symbol, aDesign, aName, anInteger, aLiteral, aUnit, aFactor, aPrimary, theWord, signals, moreSignals, initialValue, processes, processBody, moreListed, beginning, closingName, closing, statements, closingIf, anExpression, aTail, aMore, anEnd}

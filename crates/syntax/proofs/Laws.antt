@@ -1,20 +1,18 @@
 -- The rows are the grammar: a row has the text of its symbol, every value is made by a row, and every symbol has a value.
 -- Assumes nothing.
-use mathlib.Core.Path.{_≡_, refl, ap, _∙_, sym}
-use mathlib.Core.Bool.{Bool, true, false}
+use mathlib.Core.Path.{_≡_, refl, ap, _∙_}
+use mathlib.Core.Bool.{true, false}
 use mathlib.Core.Option.{Option, none, some}
 use mathlib.Core.List.{List, [], _∷_}
-use Prim.Native.Nat.{ℕ}
-use Rattle.words.specs.declared.unit.TimeUnit.{TimeUnit}
 use Rattle.words.specs.declared.unit.TimeUnit.the-variants
-use Rattle.words.specs.Token.{Name, Chain, AND, OR, XOR, XNOR, Fixed, Fixed-discrete}
+use Rattle.words.specs.Token.{AND, OR, XOR, XNOR, Fixed, Fixed-discrete}
 use Rattle.words.specs.Token.{ENTITY, IS, END, ARCHITECTURE, SIGNAL, BEGIN, PROCESS, AFTER, IF, THEN, ELSE, NULL, NOT, OPEN, CLOSE, COMMA, COLON, SEMICOLON, BECOMES}
 use Rattle.words.specs.Token.{Token, name, integer, literal, once, chain, unit, fixed}
 use Rattle.syntax.specs.Tree.{expression, alone, joined, chained, enough, more, plain, negated, named, constant, bracketed}
 use Rattle.syntax.specs.Tree.{immediate, after, done, also, assignment, conditional, null, missing, otherwise}
 use Rattle.syntax.specs.Tree.{declaration, unlisted, listed, process, design}
 use Rattle.syntax.proofs.Machine.{Values, Step, texts, texts-split}
-use Rattle.syntax.proofs.Rows.{Place, inBrackets, inCondition, inAssignment, Block, inProcess, inThen, inElse, Part, entityPart, architecturePart, Ending, Closing}
+use Rattle.syntax.proofs.Rows.{Place, inBrackets, inCondition, inAssignment, Block, inProcess, inThen, inElse, entityPart, architecturePart, Ending, Closing}
 use Rattle.syntax.proofs.Rows.{Symbol, aDesign, aName, anInteger, aLiteral, aUnit, aFactor, aPrimary, theWord, signals, moreSignals, initialValue, processes, processBody, moreListed, beginning, closingName, closing, statements, closingIf, anExpression, aTail, aMore, anEnd}
 use Rattle.syntax.proofs.Rows.{Value, text, Row, row, rows, next, tokenOf, followedBy, wordRows, closingNameRows, endRows, closeRows, primaryRows, factorRows, beginningRows, fixed-fits, Every, found}
 

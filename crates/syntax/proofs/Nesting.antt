@@ -1,8 +1,8 @@
 -- What the symbols of a stack hold open, and how deep their values nest: each row keeps the nesting.
 -- Assumes nothing.
-use mathlib.Core.Path.{_≡_, refl, sym, ap, _∙_}
+use mathlib.Core.Path.{_≡_, sym, ap, _∙_}
 use mathlib.Core.Bool.{false}
-use mathlib.Core.Option.{Option, none, some}
+use mathlib.Core.Option.{none, some}
 use mathlib.Core.List.{List, [], _∷_}
 use Prim.Native.Nat.{ℕ, _+_, _≤_, max}
 use native.Mathlib.Nat.{zero-max, max-zero}
@@ -11,7 +11,7 @@ use Rattle.words.specs.Token.{Token, Fixed, BEGIN, THEN, SEMICOLON}
 use Rattle.syntax.specs.Tree.{expression, alone, enough, plain, immediate, unlisted}
 use Rattle.syntax.specs.Sentence.{expressionNest, tailNest, moreNest, factorNest, primaryNest, statementsNest, otherwiseNest, processesNest, nest}
 use Rattle.syntax.proofs.Machine.{Values, Step, front, back, weights, nests, nests-split}
-use Rattle.syntax.proofs.Rows.{Place, inBrackets, inCondition, inAssignment, Block, inProcess, inThen, inElse, Ending, Closing}
+use Rattle.syntax.proofs.Rows.{Place, inBrackets, inCondition, inAssignment, Block, inProcess, inThen, inElse, Closing}
 use Rattle.syntax.proofs.Rows.{Symbol, aDesign, aName, anInteger, aLiteral, aUnit, aFactor, aPrimary, theWord, signals, moreSignals, initialValue, processes, processBody, moreListed, beginning, closingName, closing, statements, closingIf, anExpression, aTail, aMore, anEnd}
 use Rattle.syntax.proofs.Rows.{Value, Row, row, rows, next, followedBy, wordRows, closingNameRows, endRows, closeRows, primaryRows, factorRows, beginningRows, Every, found}
 use Rattle.syntax.proofs.Laws.{fill, fill-closing}

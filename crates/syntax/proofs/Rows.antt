@@ -1,16 +1,16 @@
 -- The grammar of document 01 as rows: each symbol takes one token and is replaced by the symbols that must follow.
 -- No symbol is ever empty: what may be missing is kept together with what must follow it. Assumes nothing.
-use mathlib.Core.Path.{_≡_, refl, ap, _∙_, sym}
+use mathlib.Core.Path.{_≡_, refl, ap}
 use mathlib.Core.Bool.{Bool, true, false}
 use mathlib.Core.Option.{Option, none, some, Option·some-injective, Option·none-ne-some}
 use mathlib.Core.List.{List, [], _∷_, _++_}
 use Prim.Native.Nat.{ℕ}
 use Rattle.words.specs.declared.unit.TimeUnit.{TimeUnit}
-use Rattle.words.specs.Token.{Name, Once, Chain, AND, OR, XOR, XNOR, Chain-discrete, Fixed, Fixed-discrete}
+use Rattle.words.specs.Token.{Name, Once, Chain, Chain-discrete, Fixed, Fixed-discrete}
 use Rattle.words.specs.Token.{ENTITY, IS, END, ARCHITECTURE, OF, SIGNAL, BEGIN, BOOLEAN, PROCESS, TRANSPORT, AFTER, IF, THEN, ELSE, NULL, NOT, OPEN, CLOSE, COMMA, COLON, SEMICOLON, ARROW, BECOMES}
 use Rattle.words.specs.Token.{Token, name, integer, literal, once, chain, unit, fixed, foreign}
 use Rattle.syntax.specs.Tree.{Expression, expression, Tail, alone, joined, chained, More, enough, more, Factor, plain, negated, Primary, named, constant, bracketed}
-use Rattle.syntax.specs.Tree.{Delay, immediate, after, Statements, done, also, Statement, assignment, conditional, null, Otherwise, missing, otherwise}
+use Rattle.syntax.specs.Tree.{Delay, immediate, after, Statements, done, also, assignment, conditional, null, Otherwise, missing, otherwise}
 use Rattle.syntax.specs.Tree.{Declaration, declaration, Sensitivity, unlisted, listed, Process, process, Design, design}
 use Rattle.syntax.specs.Tree.{expressionText, tailText, moreText, factorText, primaryText, delayText, statementsText, otherwiseText, wordText, nameText, commaText, initialText, sensitivityText, declarationsText, processesText, wholeText}
 use Rattle.syntax.proofs.Machine.{Values, Step, front, back}

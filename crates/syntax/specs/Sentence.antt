@@ -2,17 +2,17 @@
 -- Assumes nothing: these are definitions.
 use Prim.Native.Nat.{ℕ, suc, _+_, _<_, _≤_, max}
 use native.Mathlib.Omega.{arith}
-use mathlib.Core.Path.{_≡_, refl, sym}
-use mathlib.Core.Bool.{Bool, true, false}
-use mathlib.Core.Option.{Option, none}
+use mathlib.Core.Path.{_≡_, refl}
+use mathlib.Core.Bool.{false}
+use mathlib.Core.Option.{none}
 use mathlib.Core.List.{List, [], _∷_, _++_, cons≢nil}
-use mathlib.Core.Logic.{_⊎_, inl, inr}
+use mathlib.Core.Logic.{_⊎_, inr}
 use lib.ListN.{length, take}
 use Rattle.laws.specs.Text.{bytes}
-use Rattle.words.specs.Token.{Token, Name}
+use Rattle.words.specs.Token.{Token}
 use Rattle.syntax.specs.Tree.{Expression, expression, Tail, alone, joined, chained, More, enough, more, Factor, plain, negated, Primary, named, constant, bracketed}
-use Rattle.syntax.specs.Tree.{Statements, done, also, Statement, assignment, conditional, null, Otherwise, missing, otherwise, immediate}
-use Rattle.syntax.specs.Tree.{Process, process, unlisted, listed, Design, design, designText}
+use Rattle.syntax.specs.Tree.{Statements, done, also, Statement, assignment, conditional, null, Otherwise, missing, otherwise}
+use Rattle.syntax.specs.Tree.{Process, process, listed, Design, design, designText}
 
 -- 32 open brackets and `if`s together
 abbrev pub mostOpen : ℕ
