@@ -76,7 +76,7 @@ RightByCount ts (refused4 k) = Counted4 ts k
 
 -- behind this token a bracket and an `if` open
 abbrev Calm : Token → Type 0
-Calm p = ((n : ℕ) → openAt p (fixed OPEN) n ≡ suc n) × ((n : ℕ) → openAt p (fixed IF) n ≡ suc n)
+Calm p = (is PROCESS p ≡ false) × (is END p ≡ false)
 
 -- the symbol may stand behind the token p
 abbrev Follows : Symbol → Token → Type 0
@@ -92,13 +92,13 @@ Follows signals p = Unit
 Follows moreSignals p = Unit
 Follows initialValue p = Unit
 Follows processes p = Unit
-Follows processBody p = (n : ℕ) → openAt p (fixed OPEN) n ≡ n
+Follows processBody p = is PROCESS p ≡ true
 Follows moreListed p = Unit
 Follows beginning p = Unit
 Follows closingName p = Unit
 Follows (closing u) p = Unit
 Follows (statements b) p = Calm p
-Follows closingIf p = (n : ℕ) → openAt p (fixed IF) n ≡ n - 1
+Follows closingIf p = is END p ≡ true
 Follows (anExpression c) p = Calm p
 Follows (aTail c) p = Unit
 Follows (aMore d c) p = Unit
@@ -166,6 +166,18 @@ abbrev Keeps : (X : Symbol) → Token → Step Value X → Type 0
 Keeps X t s = (p : Token) → Follows X p → (ss : List Symbol) → Level X (weights weight ss) → ((q : Token) → Ends X q → Stands q ss)
     → (openAt p t (weight X + weights weight ss) ≡ weights weight (s .push ++ ss)) × Stands t (s .push ++ ss)
 
+bracket-opens : (p : Token) → is PROCESS p ≡ false → (n : ℕ) → openAt p (fixed OPEN) n ≡ suc n
+bracket-opens p e n = ap (λ b. pick b n (suc n)) e
+
+list-opens-none : (p : Token) → is PROCESS p ≡ true → (n : ℕ) → openAt p (fixed OPEN) n ≡ n
+list-opens-none p e n = ap (λ b. pick b n (suc n)) e
+
+if-opens : (p : Token) → is END p ≡ false → (n : ℕ) → openAt p (fixed IF) n ≡ suc n
+if-opens p e n = ap (λ b. pick b (n - 1) (suc n)) e
+
+end-if-closes : (p : Token) → is END p ≡ true → (n : ℕ) → openAt p (fixed IF) n ≡ n - 1
+end-if-closes p e n = ap (λ b. pick b (n - 1) (suc n)) e
+
 -- behind a word
 behind : (P : Token → Type 0) {w : Fixed} {q : Token} → q ≡ fixed w → P (fixed w) → P q
 behind P e h = subst P (sym e) h
@@ -188,43 +200,43 @@ word-keeps w = (λ a p f ss _ below. (f _ ∙ omega arith, below (fixed w) refl)
 
 closing-name-keeps : Every (Keeps closingName) closingNameRows
 closing-name-keeps = (
-  λ a p _ ss _ below. (omega arith, (λ n. refl, tt, λ q z. below q (behind Calm z (λ n. refl, λ n. refl)))),
-  followed-keeps closingName (theWord SEMICOLON) [] (λ _ _. none) (wordRows SEMICOLON) (omega arith) (λ p _ n. refl) (λ w _. tt) (λ ss below q z. below q (behind Calm z (λ n. refl, λ n. refl))) (word-keeps SEMICOLON),
+  λ a p _ ss _ below. (omega arith, (λ n. refl, tt, λ q z. below q (behind Calm z (refl, refl)))),
+  followed-keeps closingName (theWord SEMICOLON) [] (λ _ _. none) (wordRows SEMICOLON) (omega arith) (λ p _ n. refl) (λ w _. tt) (λ ss below q z. below q (behind Calm z (refl, refl))) (word-keeps SEMICOLON),
 )
 
 end-keeps : (c : Place) → Every (Keeps (anEnd c)) (endRows c)
-end-keeps inBrackets = (λ a p _ ss _ below. (omega arith, below (fixed CLOSE) (λ n. refl, λ n. refl)), tt)
-end-keeps inCondition = followed-keeps (anEnd inCondition) (theWord THEN) [] (λ v _. v) (wordRows THEN) (omega arith) (λ p _ n. refl) (λ w _. tt) (λ ss below q z. below q (behind Calm z (λ n. refl, λ n. refl))) (word-keeps THEN)
+end-keeps inBrackets = (λ a p _ ss _ below. (omega arith, below (fixed CLOSE) (refl, refl)), tt)
+end-keeps inCondition = followed-keeps (anEnd inCondition) (theWord THEN) [] (λ v _. v) (wordRows THEN) (omega arith) (λ p _ n. refl) (λ w _. tt) (λ ss below q z. below q (behind Calm z (refl, refl))) (word-keeps THEN)
 end-keeps inAssignment = (
-  λ a p _ ss _ below. (omega arith, (tt, tt, λ _ _. (tt, tt, λ _ _. (λ n. refl, tt, λ q z. below q (behind Calm z (λ n. refl, λ n. refl)))))),
-  followed-keeps (anEnd inAssignment) (theWord SEMICOLON) [] (λ _ _. immediate) (wordRows SEMICOLON) (omega arith) (λ p _ n. refl) (λ w _. tt) (λ ss below q z. below q (behind Calm z (λ n. refl, λ n. refl))) (word-keeps SEMICOLON),
+  λ a p _ ss _ below. (omega arith, (tt, tt, λ _ _. (tt, tt, λ _ _. (λ n. refl, tt, λ q z. below q (behind Calm z (refl, refl)))))),
+  followed-keeps (anEnd inAssignment) (theWord SEMICOLON) [] (λ _ _. immediate) (wordRows SEMICOLON) (omega arith) (λ p _ n. refl) (λ w _. tt) (λ ss below q z. below q (behind Calm z (refl, refl))) (word-keeps SEMICOLON),
 )
 
 primary-keeps : Every (Keeps aPrimary) primaryRows
 primary-keeps = (
-  λ a p _ ss _ below. (omega arith, below (name a) (λ n. refl, λ n. refl)),
+  λ a p _ ss _ below. (omega arith, below (name a) (refl, refl)),
   (
-    λ a p _ ss _ below. (omega arith, below (literal a) (λ n. refl, λ n. refl)),
-    (λ a p f ss _ below. (f .0 _ ∙ omega arith, ((λ n. refl, λ n. refl), tt, below)), tt),
+    λ a p _ ss _ below. (omega arith, below (literal a) (refl, refl)),
+    (λ a p f ss _ below. (bracket-opens p (f .0) _ ∙ omega arith, ((refl, refl), tt, below)), tt),
   ),
 )
 
 factor-keeps : Every (Keeps aFactor) factorRows
-factor-keeps = (λ a p _ ss _ below. (omega arith, ((λ n. refl, λ n. refl), tt, below)), followed-keeps aFactor aPrimary [] (λ p _. plain p) primaryRows (omega arith) (λ p h. h) (λ w _. tt) (λ ss below. below) primary-keeps)
+factor-keeps = (λ a p _ ss _ below. (omega arith, ((refl, refl), tt, below)), followed-keeps aFactor aPrimary [] (λ p _. plain p) primaryRows (omega arith) (λ p h. h) (λ w _. tt) (λ ss below. below) primary-keeps)
 
 beginning-keeps : Every (Keeps beginning) beginningRows
 beginning-keeps = (
-  λ a p _ ss _ below. (omega arith, (λ n. refl, tt, λ q z. below q (behind Calm z (λ n. refl, λ n. refl)))),
-  followed-keeps beginning (theWord BEGIN) [] (λ _ _. false) (wordRows BEGIN) (omega arith) (λ p _ n. refl) (λ w _. tt) (λ ss below q z. below q (behind Calm z (λ n. refl, λ n. refl))) (word-keeps BEGIN),
+  λ a p _ ss _ below. (omega arith, (λ n. refl, tt, λ q z. below q (behind Calm z (refl, refl)))),
+  followed-keeps beginning (theWord BEGIN) [] (λ _ _. false) (wordRows BEGIN) (omega arith) (λ p _ n. refl) (λ w _. tt) (λ ss below q z. below q (behind Calm z (refl, refl))) (word-keeps BEGIN),
 )
 
 close-keeps : (b : Block) → Every (Keeps (statements b)) (closeRows b)
 close-keeps inProcess = (λ a p _ ss _ below. (omega arith, (λ n. refl, tt, λ _ _. (tt, tt, below))), tt)
 close-keeps inThen = (
-  λ a p _ ss _ below. (omega arith, ((λ n. refl, λ n. refl), tt, below)),
-  (λ a p _ ss _ below. (omega arith, (λ n. refl, tt, below)), tt),
+  λ a p _ ss _ below. (omega arith, ((refl, refl), tt, below)),
+  (λ a p _ ss _ below. (omega arith, (refl, tt, below)), tt),
 )
-close-keeps inElse = (λ a p _ ss _ below. (omega arith, (λ n. refl, tt, below)), tt)
+close-keeps inElse = (λ a p _ ss _ below. (omega arith, (refl, tt, below)), tt)
 
 rows-keep : (X : Symbol) → Every (Keeps X) (rows X)
 rows-keep aDesign = (
@@ -263,42 +275,42 @@ rows-keep aDesign = (
   ),
   tt,
 )
-rows-keep aName = (λ a p _ ss _ below. (omega arith, below (name a) (λ n. refl, λ n. refl)), tt)
-rows-keep anInteger = (λ a p _ ss _ below. (omega arith, below (integer a) (λ n. refl, λ n. refl)), tt)
-rows-keep aLiteral = (λ a p _ ss _ below. (omega arith, below (literal a) (λ n. refl, λ n. refl)), tt)
-rows-keep aUnit = (λ a p _ ss _ below. (omega arith, below (unit a) (λ n. refl, λ n. refl)), tt)
+rows-keep aName = (λ a p _ ss _ below. (omega arith, below (name a) (refl, refl)), tt)
+rows-keep anInteger = (λ a p _ ss _ below. (omega arith, below (integer a) (refl, refl)), tt)
+rows-keep aLiteral = (λ a p _ ss _ below. (omega arith, below (literal a) (refl, refl)), tt)
+rows-keep aUnit = (λ a p _ ss _ below. (omega arith, below (unit a) (refl, refl)), tt)
 rows-keep aFactor = factor-keeps
 rows-keep aPrimary = primary-keeps
 rows-keep (theWord w) = word-keeps w
 rows-keep signals = (
   λ a p _ ss _ below. (omega arith, (tt, tt, λ _ _. (tt, tt, λ _ _. (tt, tt, below)))),
-  (λ a p _ ss _ below. (omega arith, below (fixed BEGIN) (λ n. refl, λ n. refl)), tt),
+  (λ a p _ ss _ below. (omega arith, below (fixed BEGIN) (refl, refl)), tt),
 )
 rows-keep moreSignals = (
   λ a p _ ss _ below. (omega arith, (tt, tt, λ _ _. (tt, tt, below))),
   (λ a p _ ss _ below. (omega arith, (λ n. refl, tt, λ _ _. (tt, tt, below))), tt),
 )
 rows-keep initialValue = (
-  λ a p _ ss _ below. (omega arith, (tt, tt, λ _ _. (λ n. refl, tt, λ q z. below q (behind Calm z (λ n. refl, λ n. refl))))),
-  followed-keeps initialValue (theWord SEMICOLON) [] (λ _ _. none) (wordRows SEMICOLON) (omega arith) (λ p _ n. refl) (λ w _. tt) (λ ss below q z. below q (behind Calm z (λ n. refl, λ n. refl))) (word-keeps SEMICOLON),
+  λ a p _ ss _ below. (omega arith, (tt, tt, λ _ _. (λ n. refl, tt, λ q z. below q (behind Calm z (refl, refl))))),
+  followed-keeps initialValue (theWord SEMICOLON) [] (λ _ _. none) (wordRows SEMICOLON) (omega arith) (λ p _ n. refl) (λ w _. tt) (λ ss below q z. below q (behind Calm z (refl, refl))) (word-keeps SEMICOLON),
 )
 rows-keep processes = (
   λ a p _ ss h below. (
     omega arith,
-    (λ n. refl, tt, λ _ _. (λ n. refl, tt, λ q z. (behind (Follows processBody) z (λ n. refl), omega arith, λ _ _. (tt, h, below)))),
+    (λ n. refl, tt, λ _ _. (λ n. refl, tt, λ q z. (behind (Follows processBody) z refl, omega arith, λ _ _. (tt, h, below)))),
   ),
   (
-    λ a p _ ss h below. (omega arith, (λ n. refl, omega arith, λ _ _. (tt, h, below))),
+    λ a p _ ss h below. (omega arith, (refl, omega arith, λ _ _. (tt, h, below))),
     (λ a p _ ss _ below. (omega arith, below (fixed END) tt), tt),
   ),
 )
 rows-keep processBody = (
-  λ a p f ss h below. (f _ ∙ omega arith, (tt, tt, λ _ _. (tt, omega arith, λ _ _. (tt, tt, λ q z. (z, tt, below))))),
+  λ a p f ss h below. (list-opens-none p f _ ∙ omega arith, (tt, tt, λ _ _. (tt, omega arith, λ _ _. (tt, tt, λ q z. (z, tt, below))))),
   followed-keeps processBody beginning (statements inProcess ∷ []) (λ i ws. (unlisted, (i, ws .0))) beginningRows (omega arith) (λ p _. tt) (λ w _. tt) (λ ss below q z. (z, tt, below)) beginning-keeps,
 )
 rows-keep moreListed = (
   λ a p _ ss h below. (omega arith, (tt, tt, λ _ _. (tt, h, below))),
-  (λ a p _ ss h below. (omega arith, below (fixed CLOSE) (λ n. refl, λ n. refl)), tt),
+  (λ a p _ ss h below. (omega arith, below (fixed CLOSE) (refl, refl)), tt),
 )
 rows-keep beginning = beginning-keeps
 rows-keep closingName = closing-name-keeps
@@ -313,22 +325,22 @@ rows-keep (closing architecturePart) = (
 rows-keep (statements b) = (
   λ a p _ ss _ below. (
     omega arith,
-    (λ n. refl, tt, λ _ _. (λ n. refl, tt, λ q z. (behind Calm z (λ n. refl, λ n. refl), tt, λ q z. (z, tt, below)))),
+    (λ n. refl, tt, λ _ _. (λ n. refl, tt, λ q z. (behind Calm z (refl, refl), tt, λ q z. (z, tt, below)))),
   ),
   (
-    λ a p f ss _ below. (f .1 _ ∙ omega arith, ((λ n. refl, λ n. refl), tt, λ q z. (z, tt, λ q z. (z, tt, below)))),
-    (λ a p _ ss _ below. (omega arith, (λ n. refl, tt, λ q z. (behind Calm z (λ n. refl, λ n. refl), tt, below))), close-keeps b),
+    λ a p f ss _ below. (if-opens p (f .1) _ ∙ omega arith, ((refl, refl), tt, λ q z. (z, tt, λ q z. (z, tt, below)))),
+    (λ a p _ ss _ below. (omega arith, (λ n. refl, tt, λ q z. (behind Calm z (refl, refl), tt, below))), close-keeps b),
   ),
 )
-rows-keep closingIf = (λ a p f ss _ below. (f _ ∙ omega arith, (λ n. refl, tt, λ q z. below q (behind Calm z (λ n. refl, λ n. refl)))), tt)
+rows-keep closingIf = (λ a p f ss _ below. (end-if-closes p f _ ∙ omega arith, (λ n. refl, tt, λ q z. below q (behind Calm z (refl, refl)))), tt)
 rows-keep (anExpression c) = followed-keeps (anExpression c) aFactor (aTail c ∷ []) (λ f ws. (expression f (ws .0 .0), ws .0 .1)) factorRows (omega arith) (λ p h. h) (λ w _. tt)
     (λ ss below q z. (tt, tt, below)) factor-keeps
 rows-keep (aTail c) = (
-  λ a p _ ss _ below. (omega arith, ((λ n. refl, λ n. refl), tt, λ _ _. (tt, tt, below))),
-  (λ a p _ ss _ below. (omega arith, ((λ n. refl, λ n. refl), tt, λ _ _. (tt, tt, below))), followed-keeps (aTail c) (anEnd c) [] (λ a _. (alone, a)) (endRows c) (omega arith) (λ p h. h) (λ w _. tt) (λ ss below. below) (end-keeps c)),
+  λ a p _ ss _ below. (omega arith, ((refl, refl), tt, λ _ _. (tt, tt, below))),
+  (λ a p _ ss _ below. (omega arith, ((refl, refl), tt, λ _ _. (tt, tt, below))), followed-keeps (aTail c) (anEnd c) [] (λ a _. (alone, a)) (endRows c) (omega arith) (λ p h. h) (λ w _. tt) (λ ss below. below) (end-keeps c)),
 )
 rows-keep (aMore d c) = (
-  λ a p _ ss _ below. (omega arith, ((λ n. refl, λ n. refl), tt, λ _ _. (tt, tt, below))),
+  λ a p _ ss _ below. (omega arith, ((refl, refl), tt, λ _ _. (tt, tt, below))),
   followed-keeps (aMore d c) (anEnd c) [] (λ a _. (enough, a)) (endRows c) (omega arith) (λ p h. h) (λ w _. tt) (λ ss below. below) (end-keeps c),
 )
 rows-keep (anEnd c) = end-keeps c

@@ -90,13 +90,14 @@ module _ {Symbol Token : Type 0} (Value : Symbol → Type 0) (next : (X : Symbol
     ]
   ]
 
-  -- the verdict where the first token takes the step o, and where the test of the limit is d
+  -- the same verdict, where the test of the limit answers d
   abbrev pub limited : {D : Type 0} {X : Symbol} {P : Type 0} → Step Value X → Dec P → List Token → (ss : List Symbol) → (Values Value (X ∷ ss) → D) → Verdict D
   limited s d ts ss k = elim d [
     | yes _ ↦ later (run ts (s .push ++ ss) (λ us. k (made Value s ss us)))
     | no _ ↦ refused4 0
   ]
 
+  -- and where the first token takes the step o
   abbrev pub taking : {D : Type 0} {X : Symbol} → Option (Step Value X) → List Token → (ss : List Symbol) → (Values Value (X ∷ ss) → D) → Verdict D
   taking o ts ss k = elim o [
     | none ↦ refused3 0

@@ -121,9 +121,12 @@ nest-example : nest (smallest (conditional (expression (plain (bracketed (expres
     (also (conditional (expression (plain (bracketed (expression (negated (bracketed (expression (plain (named (bytes "q"))) alone))) alone))) alone) (also null done) missing) done) missing)) ≡ 4
 nest-example = refl
 
--- the empty text: 3 at its end
-right-example : Right [] (refused3 0)
-right-example = record {
+-- its text with one `null` is accepted, and the empty text is refused 3 at its end
+accepted-example : Right (designText (smallest null)) (accepted (smallest null))
+accepted-example = (refl, omega arith)
+
+refused-example : Right [] (refused3 0)
+refused-example = record {
   before = (smallest null, omega arith, _, refl);
   here = inr (refl, λ (d, e). none-empty d e);
 }
