@@ -3,8 +3,8 @@
 use mathlib.Core.Path.{_≡_, refl, sym, ap, _∙_, subst}
 use mathlib.Core.Bool.{Bool, true, false}
 use mathlib.Core.Option.{Option, none, some}
-use mathlib.Core.List.{List, [], _∷_, _++_}
-use mathlib.Core.Logic.{_↔_, inl, inr}
+use mathlib.Core.List.{List, [], _∷_, _++_, append-assoc}
+use mathlib.Core.Logic.{_↔_}
 use Prim.Native.Nat.{ℕ, zero, suc, _+_, _-_, _<_, _≤_}
 use native.Mathlib.Omega.{arith}
 use native.Mathlib.Decide.{decLe}
@@ -13,12 +13,12 @@ use lib.Seq.{take-all}
 use Rattle.laws.specs.Pick.{pick}
 use Rattle.words.specs.Token.{Fixed, Fixed-discrete, END, BEGIN, PROCESS, IF, OPEN, CLOSE, SEMICOLON, THEN}
 use Rattle.words.specs.Token.{Token, name, integer, literal, once, chain, unit, fixed, foreign}
-use Rattle.syntax.specs.Tree.{Primary, expression, plain, alone, enough, immediate, Design, designText}
-use Rattle.syntax.specs.Sentence.{mostOpen, Viable, Stuck, Refused3, Refused4, Verdict, accepted, refused3, refused4, Right}
-use Rattle.syntax.proofs.Machine.{Values, Step, weights, later, made, limited, taking}
+use Rattle.syntax.specs.Tree.{expression, plain, alone, enough, immediate, unlisted, Design, designText}
+use Rattle.syntax.specs.Sentence.{mostOpen, Viable, Stuck, Verdict, accepted, refused3, refused4, Right}
+use Rattle.syntax.proofs.Machine.{Values, Step, weights, weights-append, later, made, limited, taking}
 use Rattle.syntax.proofs.Rows.{Place, inBrackets, inCondition, inAssignment, Block, inProcess, inThen, inElse, entityPart, architecturePart}
 use Rattle.syntax.proofs.Rows.{Symbol, aDesign, aName, anInteger, aLiteral, aUnit, aFactor, aPrimary, theWord, signals, moreSignals, initialValue, processes, processBody, moreListed, beginning, closingName, closing, statements, closingIf, anExpression, aTail, aMore, anEnd}
-use Rattle.syntax.proofs.Rows.{Value, Row, row, rows, next, renamed, wordRows, closingNameRows, endRows, closeRows, primaryRows, Every, found}
+use Rattle.syntax.proofs.Rows.{Value, Row, row, rows, next, tokenOf, followedBy, wordRows, closingNameRows, endRows, closeRows, primaryRows, factorRows, beginningRows, Every, found}
 use Rattle.syntax.proofs.Nesting.{weight}
 use Rattle.syntax.proofs.Theorem.{run, read, read-right, one-tree, one-verdict, viable-within, not-stuck, last-viable, one-stuck}
 
@@ -76,7 +76,7 @@ RightByCount ts (refused4 k) = Counted4 ts k
 
 -- behind this token a bracket and an `if` open
 abbrev Calm : Token → Type 0
-Calm p = ((n : ℕ) → openAt p (fixed OPEN) n ≡ suc n) × ((n : ℕ) → openAt p (fixed IF) n ≡ suc n)
+Calm p = (is PROCESS p ≡ false) × (is END p ≡ false)
 
 -- the symbol may stand behind the token p
 abbrev Follows : Symbol → Token → Type 0
@@ -92,13 +92,13 @@ Follows signals p = Unit
 Follows moreSignals p = Unit
 Follows initialValue p = Unit
 Follows processes p = Unit
-Follows processBody p = (n : ℕ) → openAt p (fixed OPEN) n ≡ n
+Follows processBody p = is PROCESS p ≡ true
 Follows moreListed p = Unit
 Follows beginning p = Unit
 Follows closingName p = Unit
 Follows (closing u) p = Unit
 Follows (statements b) p = Calm p
-Follows closingIf p = (n : ℕ) → openAt p (fixed IF) n ≡ n - 1
+Follows closingIf p = is END p ≡ true
 Follows (anExpression c) p = Calm p
 Follows (aTail c) p = Unit
 Follows (aMore d c) p = Unit
@@ -166,52 +166,77 @@ abbrev Keeps : (X : Symbol) → Token → Step Value X → Type 0
 Keeps X t s = (p : Token) → Follows X p → (ss : List Symbol) → Level X (weights weight ss) → ((q : Token) → Ends X q → Stands q ss)
     → (openAt p t (weight X + weights weight ss) ≡ weights weight (s .push ++ ss)) × Stands t (s .push ++ ss)
 
+bracket-opens : (p : Token) → is PROCESS p ≡ false → (n : ℕ) → openAt p (fixed OPEN) n ≡ suc n
+bracket-opens p e n = ap (λ b. pick b n (suc n)) e
+
+list-opens-none : (p : Token) → is PROCESS p ≡ true → (n : ℕ) → openAt p (fixed OPEN) n ≡ n
+list-opens-none p e n = ap (λ b. pick b n (suc n)) e
+
+if-opens : (p : Token) → is END p ≡ false → (n : ℕ) → openAt p (fixed IF) n ≡ suc n
+if-opens p e n = ap (λ b. pick b (n - 1) (suc n)) e
+
+end-if-closes : (p : Token) → is END p ≡ true → (n : ℕ) → openAt p (fixed IF) n ≡ n - 1
+end-if-closes p e n = ap (λ b. pick b (n - 1) (suc n)) e
+
 -- behind a word
 behind : (P : Token → Type 0) {w : Fixed} {q : Token} → q ≡ fixed w → P (fixed w) → P q
 behind P e h = subst P (sym e) h
 
-renamed-keeps : (X Y : Symbol) (g : Value Y → Value X) (rs : List (Row Y)) → weight X ≡ weight Y → ((p : Token) → Follows X p → Follows Y p)
-    → ((w : ℕ) → Level X w → Level Y w) → ((q : Token) → Ends Y q → Ends X q) → Every (Keeps Y) rs → Every (Keeps X) (renamed g rs)
-renamed-keeps X Y g [] e f l z h = tt
-renamed-keeps X Y g (row c ys b ∷ rs) e f l z h =
-    (λ a p i ss j below. rw e (h .0 a p (f p i) ss (l _ j) (λ q k. below q (z q k))), renamed-keeps X Y g rs e f l z (h .1))
+followed-keeps : (X Y : Symbol) (zs : List Symbol) (g : Value Y → Values Value zs → Value X) (rs : List (Row Y)) → weight X ≡ weight Y + weights weight zs
+    → ((p : Token) → Follows X p → Follows Y p) → ((w : ℕ) → Level X w → Level Y (weights weight zs + w))
+    → ((ss : List Symbol) → ((q : Token) → Ends X q → Stands q ss) → (q : Token) → Ends Y q → Stands q (zs ++ ss))
+    → Every (Keeps Y) rs → Every (Keeps X) (followedBy zs g rs)
+followed-keeps X Y zs g [] e f l z h = tt
+followed-keeps X Y zs g (row c ys b ∷ rs) e f l z h = (
+  λ a p i ss j below.
+      let w = weights-append weight zs ss in
+      let (n, st) = h .0 a p (f p i) (zs ++ ss) (subst (Level Y) (sym w) (l _ j)) (z ss below) in
+      rw append-assoc (ap (openAt p (tokenOf c a)) (omega arith) ∙ n, st),
+  followed-keeps X Y zs g rs e f l z (h .1),
+)
 
 word-keeps : (w : Fixed) → Every (Keeps (theWord w)) (wordRows w)
 word-keeps w = (λ a p f ss _ below. (f _ ∙ omega arith, below (fixed w) refl), tt)
 
 closing-name-keeps : Every (Keeps closingName) closingNameRows
 closing-name-keeps = (
-  λ a p _ ss _ below. (omega arith, (λ n. refl, tt, λ q z. below q (behind Calm z (λ n. refl, λ n. refl)))),
-  renamed-keeps closingName (theWord SEMICOLON) (λ _. none) (wordRows SEMICOLON) refl (λ p _ n. refl) (λ w _. tt) (λ q z. behind Calm z (λ n. refl, λ n. refl)) (word-keeps SEMICOLON),
+  λ a p _ ss _ below. (omega arith, (λ n. refl, tt, λ q z. below q (behind Calm z (refl, refl)))),
+  followed-keeps closingName (theWord SEMICOLON) [] (λ _ _. none) (wordRows SEMICOLON) (omega arith) (λ p _ n. refl) (λ w _. tt) (λ ss below q z. below q (behind Calm z (refl, refl))) (word-keeps SEMICOLON),
 )
 
 end-keeps : (c : Place) → Every (Keeps (anEnd c)) (endRows c)
-end-keeps inBrackets = (λ a p _ ss _ below. (omega arith, below (fixed CLOSE) (λ n. refl, λ n. refl)), tt)
-end-keeps inCondition = renamed-keeps (anEnd inCondition) (theWord THEN) (λ v. v) (wordRows THEN) refl (λ p _ n. refl) (λ w _. tt) (λ q z. behind Calm z (λ n. refl, λ n. refl)) (word-keeps THEN)
+end-keeps inBrackets = (λ a p _ ss _ below. (omega arith, below (fixed CLOSE) (refl, refl)), tt)
+end-keeps inCondition = followed-keeps (anEnd inCondition) (theWord THEN) [] (λ v _. v) (wordRows THEN) (omega arith) (λ p _ n. refl) (λ w _. tt) (λ ss below q z. below q (behind Calm z (refl, refl))) (word-keeps THEN)
 end-keeps inAssignment = (
-  λ a p _ ss _ below. (omega arith, (tt, tt, λ _ _. (tt, tt, λ _ _. (λ n. refl, tt, λ q z. below q (behind Calm z (λ n. refl, λ n. refl)))))),
-  renamed-keeps (anEnd inAssignment) (theWord SEMICOLON) (λ _. immediate) (wordRows SEMICOLON) refl (λ p _ n. refl) (λ w _. tt) (λ q z. behind Calm z (λ n. refl, λ n. refl)) (word-keeps SEMICOLON),
+  λ a p _ ss _ below. (omega arith, (tt, tt, λ _ _. (tt, tt, λ _ _. (λ n. refl, tt, λ q z. below q (behind Calm z (refl, refl)))))),
+  followed-keeps (anEnd inAssignment) (theWord SEMICOLON) [] (λ _ _. immediate) (wordRows SEMICOLON) (omega arith) (λ p _ n. refl) (λ w _. tt) (λ ss below q z. below q (behind Calm z (refl, refl))) (word-keeps SEMICOLON),
 )
 
-primary-keeps : (X : Symbol) (ys : List Symbol) (f : Primary → Values Value ys → Value X) → ((p : Token) → Follows X p → Calm p)
-    → ((ss : List Symbol) → weights weight (ys ++ ss) ≡ weight X + weights weight ss)
-    → ((ss : List Symbol) → ((q : Token) → Ends X q → Stands q ss) → (q : Token) → Calm q → Stands q (ys ++ ss))
-    → Every (Keeps X) (primaryRows X ys f)
-primary-keeps X ys f c e l = (
-  λ a p _ ss _ below. (sym (e ss), l ss below (name a) (λ n. refl, λ n. refl)),
+primary-keeps : Every (Keeps aPrimary) primaryRows
+primary-keeps = (
+  λ a p _ ss _ below. (omega arith, below (name a) (refl, refl)),
   (
-    λ a p _ ss _ below. (sym (e ss), l ss below (literal a) (λ n. refl, λ n. refl)),
-    (λ a p h ss _ below. (c p h .0 _ ∙ ap suc (sym (e ss)) ∙ omega arith, ((λ n. refl, λ n. refl), tt, l ss below)), tt),
+    λ a p _ ss _ below. (omega arith, below (literal a) (refl, refl)),
+    (λ a p f ss _ below. (bracket-opens p (f .0) _ ∙ omega arith, ((refl, refl), tt, below)), tt),
   ),
+)
+
+factor-keeps : Every (Keeps aFactor) factorRows
+factor-keeps = (λ a p _ ss _ below. (omega arith, ((refl, refl), tt, below)), followed-keeps aFactor aPrimary [] (λ p _. plain p) primaryRows (omega arith) (λ p h. h) (λ w _. tt) (λ ss below. below) primary-keeps)
+
+beginning-keeps : Every (Keeps beginning) beginningRows
+beginning-keeps = (
+  λ a p _ ss _ below. (omega arith, (λ n. refl, tt, λ q z. below q (behind Calm z (refl, refl)))),
+  followed-keeps beginning (theWord BEGIN) [] (λ _ _. false) (wordRows BEGIN) (omega arith) (λ p _ n. refl) (λ w _. tt) (λ ss below q z. below q (behind Calm z (refl, refl))) (word-keeps BEGIN),
 )
 
 close-keeps : (b : Block) → Every (Keeps (statements b)) (closeRows b)
 close-keeps inProcess = (λ a p _ ss _ below. (omega arith, (λ n. refl, tt, λ _ _. (tt, tt, below))), tt)
 close-keeps inThen = (
-  λ a p _ ss _ below. (omega arith, ((λ n. refl, λ n. refl), tt, below)),
-  (λ a p _ ss _ below. (omega arith, (λ n. refl, tt, below)), tt),
+  λ a p _ ss _ below. (omega arith, ((refl, refl), tt, below)),
+  (λ a p _ ss _ below. (omega arith, (refl, tt, below)), tt),
 )
-close-keeps inElse = (λ a p _ ss _ below. (omega arith, (λ n. refl, tt, below)), tt)
+close-keeps inElse = (λ a p _ ss _ below. (omega arith, (refl, tt, below)), tt)
 
 rows-keep : (X : Symbol) → Every (Keeps X) (rows X)
 rows-keep aDesign = (
@@ -250,85 +275,73 @@ rows-keep aDesign = (
   ),
   tt,
 )
-rows-keep aName = (λ a p _ ss _ below. (omega arith, below (name a) (λ n. refl, λ n. refl)), tt)
-rows-keep anInteger = (λ a p _ ss _ below. (omega arith, below (integer a) (λ n. refl, λ n. refl)), tt)
-rows-keep aLiteral = (λ a p _ ss _ below. (omega arith, below (literal a) (λ n. refl, λ n. refl)), tt)
-rows-keep aUnit = (λ a p _ ss _ below. (omega arith, below (unit a) (λ n. refl, λ n. refl)), tt)
-rows-keep aFactor = (
-  λ a p _ ss _ below. (omega arith, ((λ n. refl, λ n. refl), tt, below)),
-  renamed-keeps aFactor aPrimary plain (primaryRows aPrimary [] (λ v _. v)) refl (λ p h. h) (λ w _. tt) (λ q z. z)
-      (primary-keeps aPrimary [] (λ v _. v) (λ p h. h) (λ ss. omega arith) (λ ss below. below)),
-)
-rows-keep aPrimary = primary-keeps aPrimary [] (λ v _. v) (λ p h. h) (λ ss. omega arith) (λ ss below. below)
+rows-keep aName = (λ a p _ ss _ below. (omega arith, below (name a) (refl, refl)), tt)
+rows-keep anInteger = (λ a p _ ss _ below. (omega arith, below (integer a) (refl, refl)), tt)
+rows-keep aLiteral = (λ a p _ ss _ below. (omega arith, below (literal a) (refl, refl)), tt)
+rows-keep aUnit = (λ a p _ ss _ below. (omega arith, below (unit a) (refl, refl)), tt)
+rows-keep aFactor = factor-keeps
+rows-keep aPrimary = primary-keeps
 rows-keep (theWord w) = word-keeps w
 rows-keep signals = (
   λ a p _ ss _ below. (omega arith, (tt, tt, λ _ _. (tt, tt, λ _ _. (tt, tt, below)))),
-  (λ a p _ ss _ below. (omega arith, below (fixed BEGIN) (λ n. refl, λ n. refl)), tt),
+  (λ a p _ ss _ below. (omega arith, below (fixed BEGIN) (refl, refl)), tt),
 )
 rows-keep moreSignals = (
   λ a p _ ss _ below. (omega arith, (tt, tt, λ _ _. (tt, tt, below))),
   (λ a p _ ss _ below. (omega arith, (λ n. refl, tt, λ _ _. (tt, tt, below))), tt),
 )
 rows-keep initialValue = (
-  λ a p _ ss _ below. (omega arith, (tt, tt, λ _ _. (λ n. refl, tt, λ q z. below q (behind Calm z (λ n. refl, λ n. refl))))),
-  renamed-keeps initialValue (theWord SEMICOLON) (λ _. none) (wordRows SEMICOLON) refl (λ p _ n. refl) (λ w _. tt) (λ q z. behind Calm z (λ n. refl, λ n. refl)) (word-keeps SEMICOLON),
+  λ a p _ ss _ below. (omega arith, (tt, tt, λ _ _. (λ n. refl, tt, λ q z. below q (behind Calm z (refl, refl))))),
+  followed-keeps initialValue (theWord SEMICOLON) [] (λ _ _. none) (wordRows SEMICOLON) (omega arith) (λ p _ n. refl) (λ w _. tt) (λ ss below q z. below q (behind Calm z (refl, refl))) (word-keeps SEMICOLON),
 )
 rows-keep processes = (
   λ a p _ ss h below. (
     omega arith,
-    (λ n. refl, tt, λ _ _. (λ n. refl, tt, λ q z. (behind (Follows processBody) z (λ n. refl), omega arith, λ _ _. (tt, h, below)))),
+    (λ n. refl, tt, λ _ _. (λ n. refl, tt, λ q z. (behind (Follows processBody) z refl, omega arith, λ _ _. (tt, h, below)))),
   ),
   (
-    λ a p _ ss h below. (omega arith, (λ n. refl, omega arith, λ _ _. (tt, h, below))),
+    λ a p _ ss h below. (omega arith, (refl, omega arith, λ _ _. (tt, h, below))),
     (λ a p _ ss _ below. (omega arith, below (fixed END) tt), tt),
   ),
 )
 rows-keep processBody = (
-  λ a p f ss h below. (f _ ∙ omega arith, (tt, tt, λ _ _. (tt, omega arith, λ _ _. (tt, tt, λ q z. (z, tt, below))))),
-  (
-    λ a p _ ss _ below. (omega arith, (λ n. refl, tt, λ q z. (behind Calm z (λ n. refl, λ n. refl), tt, below))),
-    (λ a p _ ss _ below. (omega arith, ((λ n. refl, λ n. refl), tt, below)), tt),
-  ),
+  λ a p f ss h below. (list-opens-none p f _ ∙ omega arith, (tt, tt, λ _ _. (tt, omega arith, λ _ _. (tt, tt, λ q z. (z, tt, below))))),
+  followed-keeps processBody beginning (statements inProcess ∷ []) (λ i ws. (unlisted, (i, ws .0))) beginningRows (omega arith) (λ p _. tt) (λ w _. tt) (λ ss below q z. (z, tt, below)) beginning-keeps,
 )
 rows-keep moreListed = (
   λ a p _ ss h below. (omega arith, (tt, tt, λ _ _. (tt, h, below))),
-  (λ a p _ ss h below. (omega arith, below (fixed CLOSE) (λ n. refl, λ n. refl)), tt),
+  (λ a p _ ss h below. (omega arith, below (fixed CLOSE) (refl, refl)), tt),
 )
-rows-keep beginning = (
-  λ a p _ ss _ below. (omega arith, (λ n. refl, tt, λ q z. below q (behind Calm z (λ n. refl, λ n. refl)))),
-  renamed-keeps beginning (theWord BEGIN) (λ _. false) (wordRows BEGIN) refl (λ p _ n. refl) (λ w _. tt) (λ q z. behind Calm z (λ n. refl, λ n. refl)) (word-keeps BEGIN),
-)
+rows-keep beginning = beginning-keeps
 rows-keep closingName = closing-name-keeps
 rows-keep (closing entityPart) = (
   λ a p _ ss _ below. (omega arith, (tt, tt, below)),
-  renamed-keeps (closing entityPart) closingName (λ o. (false, o)) closingNameRows refl (λ p _. tt) (λ w _. tt) (λ q z. z) closing-name-keeps,
+  followed-keeps (closing entityPart) closingName [] (λ o _. (false, o)) closingNameRows (omega arith) (λ p h. h) (λ w _. tt) (λ ss below. below) closing-name-keeps,
 )
 rows-keep (closing architecturePart) = (
   λ a p _ ss _ below. (omega arith, (tt, tt, below)),
-  renamed-keeps (closing architecturePart) closingName (λ o. (false, o)) closingNameRows refl (λ p _. tt) (λ w _. tt) (λ q z. z) closing-name-keeps,
+  followed-keeps (closing architecturePart) closingName [] (λ o _. (false, o)) closingNameRows (omega arith) (λ p h. h) (λ w _. tt) (λ ss below. below) closing-name-keeps,
 )
 rows-keep (statements b) = (
   λ a p _ ss _ below. (
     omega arith,
-    (λ n. refl, tt, λ _ _. (λ n. refl, tt, λ q z. (behind Calm z (λ n. refl, λ n. refl), tt, λ q z. (z, tt, below)))),
+    (λ n. refl, tt, λ _ _. (λ n. refl, tt, λ q z. (behind Calm z (refl, refl), tt, λ q z. (z, tt, below)))),
   ),
   (
-    λ a p f ss _ below. (f .1 _ ∙ omega arith, ((λ n. refl, λ n. refl), tt, λ q z. (z, tt, λ q z. (z, tt, below)))),
-    (λ a p _ ss _ below. (omega arith, (λ n. refl, tt, λ q z. (behind Calm z (λ n. refl, λ n. refl), tt, below))), close-keeps b),
+    λ a p f ss _ below. (if-opens p (f .1) _ ∙ omega arith, ((refl, refl), tt, λ q z. (z, tt, λ q z. (z, tt, below)))),
+    (λ a p _ ss _ below. (omega arith, (λ n. refl, tt, λ q z. (behind Calm z (refl, refl), tt, below))), close-keeps b),
   ),
 )
-rows-keep closingIf = (λ a p f ss _ below. (f _ ∙ omega arith, (λ n. refl, tt, λ q z. below q (behind Calm z (λ n. refl, λ n. refl)))), tt)
-rows-keep (anExpression c) = (
-  λ a p _ ss _ below. (omega arith, ((λ n. refl, λ n. refl), tt, λ _ _. (tt, tt, below))),
-  primary-keeps (anExpression c) (aTail c ∷ []) (λ v ws. (expression (plain v) (ws .0 .0), ws .0 .1)) (λ p h. h) (λ ss. omega arith) (λ ss below q z. (tt, tt, below)),
-)
+rows-keep closingIf = (λ a p f ss _ below. (end-if-closes p f _ ∙ omega arith, (λ n. refl, tt, λ q z. below q (behind Calm z (refl, refl)))), tt)
+rows-keep (anExpression c) = followed-keeps (anExpression c) aFactor (aTail c ∷ []) (λ f ws. (expression f (ws .0 .0), ws .0 .1)) factorRows (omega arith) (λ p h. h) (λ w _. tt)
+    (λ ss below q z. (tt, tt, below)) factor-keeps
 rows-keep (aTail c) = (
-  λ a p _ ss _ below. (omega arith, ((λ n. refl, λ n. refl), tt, λ _ _. (tt, tt, below))),
-  (λ a p _ ss _ below. (omega arith, ((λ n. refl, λ n. refl), tt, λ _ _. (tt, tt, below))), renamed-keeps (aTail c) (anEnd c) (λ a. (alone, a)) (endRows c) refl (λ p h. h) (λ w h. h) (λ q z. z) (end-keeps c)),
+  λ a p _ ss _ below. (omega arith, ((refl, refl), tt, λ _ _. (tt, tt, below))),
+  (λ a p _ ss _ below. (omega arith, ((refl, refl), tt, λ _ _. (tt, tt, below))), followed-keeps (aTail c) (anEnd c) [] (λ a _. (alone, a)) (endRows c) (omega arith) (λ p h. h) (λ w _. tt) (λ ss below. below) (end-keeps c)),
 )
 rows-keep (aMore d c) = (
-  λ a p _ ss _ below. (omega arith, ((λ n. refl, λ n. refl), tt, λ _ _. (tt, tt, below))),
-  renamed-keeps (aMore d c) (anEnd c) (λ a. (enough, a)) (endRows c) refl (λ p h. h) (λ w h. h) (λ q z. z) (end-keeps c),
+  λ a p _ ss _ below. (omega arith, ((refl, refl), tt, λ _ _. (tt, tt, below))),
+  followed-keeps (aMore d c) (anEnd c) [] (λ a _. (enough, a)) (endRows c) (omega arith) (λ p h. h) (λ w _. tt) (λ ss below. below) (end-keeps c),
 )
 rows-keep (anEnd c) = end-keeps c
 

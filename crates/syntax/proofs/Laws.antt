@@ -1,48 +1,52 @@
 -- The rows are the grammar: a row has the text of its symbol, every value is made by a row, and every symbol has a value.
 -- Assumes nothing.
-use mathlib.Core.Path.{_≡_, refl, ap, _∙_, sym}
-use mathlib.Core.Bool.{Bool, true, false}
+use mathlib.Core.Path.{_≡_, refl, ap, _∙_}
+use mathlib.Core.Bool.{true, false}
 use mathlib.Core.Option.{Option, none, some}
 use mathlib.Core.List.{List, [], _∷_}
-use Prim.Native.Nat.{ℕ}
-use Rattle.words.specs.declared.unit.TimeUnit.{TimeUnit}
 use Rattle.words.specs.declared.unit.TimeUnit.the-variants
-use Rattle.words.specs.Token.{Name, Chain, AND, OR, XOR, XNOR, Fixed, Fixed-discrete}
+use Rattle.words.specs.Token.{AND, OR, XOR, XNOR, Fixed, Fixed-discrete}
 use Rattle.words.specs.Token.{ENTITY, IS, END, ARCHITECTURE, SIGNAL, BEGIN, PROCESS, AFTER, IF, THEN, ELSE, NULL, NOT, OPEN, CLOSE, COMMA, COLON, SEMICOLON, BECOMES}
 use Rattle.words.specs.Token.{Token, name, integer, literal, once, chain, unit, fixed}
-use Rattle.syntax.specs.Tree.{expression, alone, joined, chained, enough, more, plain, negated, Primary, named, constant, bracketed}
+use Rattle.syntax.specs.Tree.{expression, alone, joined, chained, enough, more, plain, negated, named, constant, bracketed}
 use Rattle.syntax.specs.Tree.{immediate, after, done, also, assignment, conditional, null, missing, otherwise}
-use Rattle.syntax.specs.Tree.{declaration, unlisted, listed, process, design, primaryText}
-use Rattle.syntax.proofs.Machine.{Values, Step, texts}
-use Rattle.syntax.proofs.Rows.{Place, inBrackets, inCondition, inAssignment, Block, inProcess, inThen, inElse, Part, entityPart, architecturePart, Ending, Closing, endingText}
+use Rattle.syntax.specs.Tree.{declaration, unlisted, listed, process, design}
+use Rattle.syntax.proofs.Machine.{Values, Step, texts, texts-split}
+use Rattle.syntax.proofs.Rows.{Place, inBrackets, inCondition, inAssignment, Block, inProcess, inThen, inElse, entityPart, architecturePart, Ending, Closing}
 use Rattle.syntax.proofs.Rows.{Symbol, aDesign, aName, anInteger, aLiteral, aUnit, aFactor, aPrimary, theWord, signals, moreSignals, initialValue, processes, processBody, moreListed, beginning, closingName, closing, statements, closingIf, anExpression, aTail, aMore, anEnd}
-use Rattle.syntax.proofs.Rows.{Value, text, Row, row, rows, next, renamed, wordRows, closingNameRows, endRows, closeRows, primaryRows, fixed-fits, Every, found}
+use Rattle.syntax.proofs.Rows.{Value, text, Row, row, rows, next, tokenOf, followedBy, wordRows, closingNameRows, endRows, closeRows, primaryRows, factorRows, beginningRows, fixed-fits, Every, found}
 
 -- A ROW HAS THE TEXT OF ITS SYMBOL
 
 abbrev pub Sound : (X : Symbol) → Token → Step Value X → Type 0
 Sound X t s = (ws : Values Value (s .push)) (r : List Token) → text X (s .build ws) r ≡ t ∷ texts Value text (s .push) ws r
 
-renamed-sound : (X Y : Symbol) (g : Value Y → Value X) (rs : List (Row Y)) → ((v : Value Y) (r : List Token) → text X (g v) r ≡ text Y v r)
-    → Every (Sound Y) rs → Every (Sound X) (renamed g rs)
-renamed-sound X Y g [] e h = tt
-renamed-sound X Y g (row c ys b ∷ rs) e h = (λ a ws r. e (b a ws) r ∙ h .0 a ws r, renamed-sound X Y g rs e (h .1))
+followed-sound : (X Y : Symbol) (zs : List Symbol) (g : Value Y → Values Value zs → Value X) (rs : List (Row Y))
+    → ((v : Value Y) (vs : Values Value zs) (r : List Token) → text X (g v vs) r ≡ text Y v (texts Value text zs vs r))
+    → Every (Sound Y) rs → Every (Sound X) (followedBy zs g rs)
+followed-sound X Y zs g [] e h = tt
+followed-sound X Y zs g (row c ys b ∷ rs) e h =
+    (λ a ws r. e _ _ r ∙ h .0 a _ _ ∙ ap (λ z. tokenOf c a ∷ z) (texts-split Value text (ys a) zs ws r), followed-sound X Y zs g rs e (h .1))
 
 word-sound : (w : Fixed) → Every (Sound (theWord w)) (wordRows w)
 word-sound w = (λ a ws r. refl, tt)
 
 closing-name-sound : Every (Sound closingName) closingNameRows
-closing-name-sound = (λ a ws r. refl, renamed-sound closingName (theWord SEMICOLON) (λ _. none) (wordRows SEMICOLON) (λ v r. refl) (word-sound SEMICOLON))
+closing-name-sound = (λ a ws r. refl, followed-sound closingName (theWord SEMICOLON) [] (λ _ _. none) (wordRows SEMICOLON) (λ v vs r. refl) (word-sound SEMICOLON))
 
 end-sound : (c : Place) → Every (Sound (anEnd c)) (endRows c)
-end-sound inBrackets = renamed-sound (anEnd inBrackets) (theWord CLOSE) (λ v. v) (wordRows CLOSE) (λ v r. refl) (word-sound CLOSE)
-end-sound inCondition = renamed-sound (anEnd inCondition) (theWord THEN) (λ v. v) (wordRows THEN) (λ v r. refl) (word-sound THEN)
-end-sound inAssignment = (λ a ws r. refl, renamed-sound (anEnd inAssignment) (theWord SEMICOLON) (λ _. immediate) (wordRows SEMICOLON) (λ v r. refl) (word-sound SEMICOLON))
+end-sound inBrackets = followed-sound (anEnd inBrackets) (theWord CLOSE) [] (λ v _. v) (wordRows CLOSE) (λ v vs r. refl) (word-sound CLOSE)
+end-sound inCondition = followed-sound (anEnd inCondition) (theWord THEN) [] (λ v _. v) (wordRows THEN) (λ v vs r. refl) (word-sound THEN)
+end-sound inAssignment = (λ a ws r. refl, followed-sound (anEnd inAssignment) (theWord SEMICOLON) [] (λ _ _. immediate) (wordRows SEMICOLON) (λ v vs r. refl) (word-sound SEMICOLON))
 
-primary-sound : (X : Symbol) (ys : List Symbol) (f : Primary → Values Value ys → Value X)
-    → ((p : Primary) (ws : Values Value ys) (r : List Token) → text X (f p ws) r ≡ primaryText p (texts Value text ys ws r))
-    → Every (Sound X) (primaryRows X ys f)
-primary-sound X ys f h = (λ a ws r. h (named a) ws r, (λ a ws r. h (constant a) ws r, (λ a ws r. h (bracketed (ws .0 .0)) (ws .1) r, tt)))
+primary-sound : Every (Sound aPrimary) primaryRows
+primary-sound = (λ a ws r. refl, (λ a ws r. refl, (λ a ws r. refl, tt)))
+
+factor-sound : Every (Sound aFactor) factorRows
+factor-sound = (λ a ws r. refl, followed-sound aFactor aPrimary [] (λ p _. plain p) primaryRows (λ p vs r. refl) primary-sound)
+
+beginning-sound : Every (Sound beginning) beginningRows
+beginning-sound = (λ a ws r. refl, followed-sound beginning (theWord BEGIN) [] (λ _ _. false) (wordRows BEGIN) (λ v vs r. refl) (word-sound BEGIN))
 
 close-sound : (b : Block) → Every (Sound (statements b)) (closeRows b)
 close-sound inProcess = (λ a ws r. refl, tt)
@@ -55,23 +59,23 @@ rows-sound aName = (λ a ws r. refl, tt)
 rows-sound anInteger = (λ a ws r. refl, tt)
 rows-sound aLiteral = (λ a ws r. refl, tt)
 rows-sound aUnit = (λ a ws r. refl, tt)
-rows-sound aFactor = (λ a ws r. refl, renamed-sound aFactor aPrimary plain (primaryRows aPrimary [] (λ p _. p)) (λ p r. refl) (primary-sound aPrimary [] (λ p _. p) (λ p ws r. refl)))
-rows-sound aPrimary = primary-sound aPrimary [] (λ p _. p) (λ p ws r. refl)
+rows-sound aFactor = factor-sound
+rows-sound aPrimary = primary-sound
 rows-sound (theWord w) = word-sound w
 rows-sound signals = (λ a ws r. refl, (λ a ws r. refl, tt))
 rows-sound moreSignals = (λ a ws r. refl, (λ a ws r. refl, tt))
-rows-sound initialValue = (λ a ws r. refl, renamed-sound initialValue (theWord SEMICOLON) (λ _. none) (wordRows SEMICOLON) (λ v r. refl) (word-sound SEMICOLON))
+rows-sound initialValue = (λ a ws r. refl, followed-sound initialValue (theWord SEMICOLON) [] (λ _ _. none) (wordRows SEMICOLON) (λ v vs r. refl) (word-sound SEMICOLON))
 rows-sound processes = (λ a ws r. refl, (λ a ws r. refl, (λ a ws r. refl, tt)))
-rows-sound processBody = (λ a ws r. refl, (λ a ws r. refl, (λ a ws r. refl, tt)))
+rows-sound processBody = (λ a ws r. refl, followed-sound processBody beginning (statements inProcess ∷ []) (λ i ws. (unlisted, (i, ws .0))) beginningRows (λ v vs r. refl) beginning-sound)
 rows-sound moreListed = (λ a ws r. refl, (λ a ws r. refl, tt))
-rows-sound beginning = (λ a ws r. refl, renamed-sound beginning (theWord BEGIN) (λ _. false) (wordRows BEGIN) (λ v r. refl) (word-sound BEGIN))
+rows-sound beginning = beginning-sound
 rows-sound closingName = closing-name-sound
-rows-sound (closing u) = (λ a ws r. refl, renamed-sound (closing u) closingName (λ o. (false, o)) closingNameRows (λ o r. refl) closing-name-sound)
+rows-sound (closing u) = (λ a ws r. refl, followed-sound (closing u) closingName [] (λ o _. (false, o)) closingNameRows (λ o vs r. refl) closing-name-sound)
 rows-sound (statements b) = (λ a ws r. refl, (λ a ws r. refl, (λ a ws r. refl, close-sound b)))
 rows-sound closingIf = (λ a ws r. refl, tt)
-rows-sound (anExpression c) = (λ a ws r. refl, primary-sound (anExpression c) (aTail c ∷ []) (λ p ws. (expression (plain p) (ws .0 .0), ws .0 .1)) (λ p ws r. refl))
-rows-sound (aTail c) = (λ a ws r. refl, (λ a ws r. refl, renamed-sound (aTail c) (anEnd c) (λ a. (alone, a)) (endRows c) (λ a r. refl) (end-sound c)))
-rows-sound (aMore d c) = (λ a ws r. refl, renamed-sound (aMore d c) (anEnd c) (λ a. (enough, a)) (endRows c) (λ a r. refl) (end-sound c))
+rows-sound (anExpression c) = followed-sound (anExpression c) aFactor (aTail c ∷ []) (λ f ws. (expression f (ws .0 .0), ws .0 .1)) factorRows (λ f vs r. refl) factor-sound
+rows-sound (aTail c) = (λ a ws r. refl, (λ a ws r. refl, followed-sound (aTail c) (anEnd c) [] (λ a _. (alone, a)) (endRows c) (λ a vs r. refl) (end-sound c)))
+rows-sound (aMore d c) = (λ a ws r. refl, followed-sound (aMore d c) (anEnd c) [] (λ a _. (enough, a)) (endRows c) (λ a vs r. refl) (end-sound c))
 rows-sound (anEnd c) = end-sound c
 
 pub sound : (X : Symbol) (t : Token) (s : Step Value X) → next X t ≡ some s → Sound X t s

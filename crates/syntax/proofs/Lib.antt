@@ -4,5 +4,6 @@ pub mod Rows
 pub mod Laws
 pub mod Nesting
 pub mod Theorem
+pub mod Missing
 pub mod Counting
 pub mod Examples

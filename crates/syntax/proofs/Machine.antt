@@ -1,7 +1,7 @@
 -- A stack of symbols, each of which takes one token or refuses it, and which together hold no more than `most` open.
 -- What is said here holds for every grammar with five laws. Assumes nothing.
 use mathlib.Core.Path.{_≡_, refl, sym, ap, _∙_, subst}
-use mathlib.Core.Option.{Option, none, some, Option·some-injective, Option·none-ne-some}
+use mathlib.Core.Option.{Option, none, some, Option·map, Option·some-injective, Option·none-ne-some}
 use mathlib.Core.List.{List, [], _∷_, _++_, head-eq-of-cons-eq, tail-eq-of-cons-eq, nil≢cons, cons≢nil}
 use mathlib.Core.Logic.{_⊎_, inl, inr}
 use Prim.Native.Nat.{ℕ, suc, _+_, _<_, _≤_, max}
@@ -57,6 +57,17 @@ module _ {Symbol : Type 0} (Value : Symbol → Type 0) where
   join-split [] ss us = refl
   join-split (y ∷ ys) ss us = ap (λ vs. (us .0, vs)) (join-split ys ss (us .1))
 
+  -- the step of Y and then zs, for X, where g makes X's value of theirs
+  abbrev pub extended : {X Y : Symbol} (zs : List Symbol) → (Value Y → Values Value zs → Value X) → Step Value Y → Step Value X
+  extended zs g s = record { push = s .push ++ zs; build = λ ws. g (s .build (front (s .push) zs ws)) (back (s .push) zs ws) }
+
+  -- what is made of a stack and the values of its parts does not depend on how they are grouped
+  regrouped : {E R : Type 0} (ys zs ss : List Symbol) (P : (qs : List Symbol) → (Values Value qs → E) → R) (k : Values Value ys → Values Value zs → Values Value ss → E)
+      → P ((ys ++ zs) ++ ss) (λ us. k (front ys zs (front (ys ++ zs) ss us)) (back ys zs (front (ys ++ zs) ss us)) (back (ys ++ zs) ss us))
+      ≡ P (ys ++ (zs ++ ss)) (λ us. k (front ys (zs ++ ss) us) (front zs ss (back ys (zs ++ ss) us)) (back zs ss (back ys (zs ++ ss) us)))
+  regrouped [] zs ss P k = refl
+  regrouped {E} (y ∷ ys) zs ss P k = regrouped {E = Value y → E} ys zs ss (λ qs h. P (y ∷ qs) (λ us. h (us .1) (us .0))) (λ ws vs us v. k (v, ws) vs us)
+
 -- THE MACHINE
 
 -- how many the symbols of a stack hold open
@@ -79,13 +90,14 @@ module _ {Symbol Token : Type 0} (Value : Symbol → Type 0) (next : (X : Symbol
     ]
   ]
 
-  -- the verdict where the first token takes the step o, and where the test of the limit is d
+  -- the same verdict, where the test of the limit answers d
   abbrev pub limited : {D : Type 0} {X : Symbol} {P : Type 0} → Step Value X → Dec P → List Token → (ss : List Symbol) → (Values Value (X ∷ ss) → D) → Verdict D
   limited s d ts ss k = elim d [
     | yes _ ↦ later (run ts (s .push ++ ss) (λ us. k (made Value s ss us)))
     | no _ ↦ refused4 0
   ]
 
+  -- and where the first token takes the step o
   abbrev pub taking : {D : Type 0} {X : Symbol} → Option (Step Value X) → List Token → (ss : List Symbol) → (Values Value (X ∷ ss) → D) → Verdict D
   taking o ts ss k = elim o [
     | none ↦ refused3 0
@@ -111,6 +123,18 @@ module _ {Symbol Token : Type 0} (Value : Symbol → Type 0) (next : (X : Symbol
         go (yes l) = absurd (h l)
         go (no _) = refl
 
+  -- where X does what Y does, and zs must follow
+  pub run-extended : {D : Type 0} (X Y : Symbol) (zs : List Symbol) (g : Value Y → Values Value zs → Value X)
+      (t : Token) (ts : List Token) (ss : List Symbol) (k : Values Value (X ∷ ss) → D) → next X t ≡ Option·map (extended Value zs g) (next Y t)
+      → run (t ∷ ts) (X ∷ ss) k ≡ run (t ∷ ts) (Y ∷ (zs ++ ss)) (λ vs. k (g (vs .0) (front Value zs ss (vs .1)), back Value zs ss (vs .1)))
+  run-extended {D} X Y zs g t ts ss k n = ap (λ o. taking o ts ss k) n ∙ go (next Y t)
+    where
+      go : (o : Option (Step Value Y)) → taking (Option·map (extended Value zs g) o) ts ss k
+          ≡ taking o ts (zs ++ ss) (λ vs. k (g (vs .0) (front Value zs ss (vs .1)), back Value zs ss (vs .1)))
+      go none = refl
+      go (some s) = regrouped Value (s .push) zs ss (λ qs h. elim (decLe (weights weight qs) most) [ yes _ ↦ later (run ts qs h) | no _ ↦ refused4 0 ])
+          (λ ws vs us. k (g (s .build ws) vs, us))
+
 -- TEXT AND NESTING OF A STACK
 
 -- the text of a stack's values, in front of r
@@ -124,6 +148,30 @@ abbrev pub nests : {Symbol : Type 0} (Value : Symbol → Type 0) → (Symbol →
     → (ss : List Symbol) → Values Value ss → ℕ
 nests Value weight nest [] vs = 0
 nests Value weight nest (X ∷ ss) vs = max (nest X (vs .0) + weights weight ss) (nests Value weight nest ss (vs .1))
+
+module _ {Symbol Token : Type 0} (Value : Symbol → Type 0) (text : (X : Symbol) → Value X → List Token → List Token) where
+  pub texts-join : (ys ss : List Symbol) (ws : Values Value ys) (vs : Values Value ss) (r : List Token)
+      → texts Value text (ys ++ ss) (join Value ys ss ws vs) r ≡ texts Value text ys ws (texts Value text ss vs r)
+  texts-join [] ss ws vs r = refl
+  texts-join (y ∷ ys) ss ws vs r = ap (text y (ws .0)) (texts-join ys ss (ws .1) vs r)
+
+  pub texts-split : (ys ss : List Symbol) (us : Values Value (ys ++ ss)) (r : List Token)
+      → texts Value text ys (front Value ys ss us) (texts Value text ss (back Value ys ss us) r) ≡ texts Value text (ys ++ ss) us r
+  texts-split ys ss us r = sym (texts-join ys ss _ _ r) ∙ ap (λ vs. texts Value text (ys ++ ss) vs r) (join-split Value ys ss us)
+
+pub weights-append : {Symbol : Type 0} (weight : Symbol → ℕ) (ys ss : List Symbol) → weights weight (ys ++ ss) ≡ weights weight ys + weights weight ss
+weights-append weight [] ss = omega arith
+weights-append weight (y ∷ ys) ss = let h = weights-append weight ys ss in omega arith
+
+module _ {Symbol : Type 0} (Value : Symbol → Type 0) (weight : Symbol → ℕ) (nest : (X : Symbol) → Value X → ℕ) where
+  nests-join : (ys ss : List Symbol) (ws : Values Value ys) (vs : Values Value ss) → weights weight ss ≤ nests Value weight nest ss vs
+      → nests Value weight nest (ys ++ ss) (join Value ys ss ws vs) ≡ max (nests Value weight nest ys ws + weights weight ss) (nests Value weight nest ss vs)
+  nests-join [] ss ws vs h = omega arith
+  nests-join (y ∷ ys) ss ws vs h = let a = weights-append weight ys ss in let b = nests-join ys ss (ws .1) vs h in omega arith
+
+  pub nests-split : (ys ss : List Symbol) (us : Values Value (ys ++ ss)) → weights weight ss ≤ nests Value weight nest ss (back Value ys ss us)
+      → nests Value weight nest (ys ++ ss) us ≡ max (nests Value weight nest ys (front Value ys ss us) + weights weight ss) (nests Value weight nest ss (back Value ys ss us))
+  nests-split ys ss us h = sym (ap (nests Value weight nest (ys ++ ss)) (join-split Value ys ss us)) ∙ nests-join ys ss _ _ h
 
 module _ {Symbol Token : Type 0} (Value : Symbol → Type 0) (text : (X : Symbol) → Value X → List Token → List Token)
     (next : (X : Symbol) → Token → Option (Step Value X)) (weight : Symbol → ℕ) (nest : (X : Symbol) → Value X → ℕ) (most : ℕ) where
@@ -148,20 +196,6 @@ module _ {Symbol Token : Type 0} (Value : Symbol → Type 0) (text : (X : Symbol
   Judged ss ts k (refused3 n) = WithinOf ss (take n ts)
       × (((n < length ts) × ¬ ViableOf ss (take (suc n) ts)) ⊎ ((n ≡ length ts) × ¬ SentenceOf ss ts))
   Judged ss ts k (refused4 n) = WithinOf ss (take n ts) × ViableOf ss (take (suc n) ts) × ¬ WithinOf ss (take (suc n) ts)
-
-  texts-join : (ys ss : List Symbol) (ws : Values Value ys) (vs : Values Value ss) (r : List Token)
-      → texts Value text (ys ++ ss) (join Value ys ss ws vs) r ≡ texts Value text ys ws (texts Value text ss vs r)
-  texts-join [] ss ws vs r = refl
-  texts-join (y ∷ ys) ss ws vs r = ap (text y (ws .0)) (texts-join ys ss (ws .1) vs r)
-
-  weights-append : (ys ss : List Symbol) → weights weight (ys ++ ss) ≡ weights weight ys + weights weight ss
-  weights-append [] ss = omega arith
-  weights-append (y ∷ ys) ss = let h = weights-append ys ss in omega arith
-
-  depth-join : (ys ss : List Symbol) (ws : Values Value ys) (vs : Values Value ss) → weights weight ss ≤ depth ss vs
-      → depth (ys ++ ss) (join Value ys ss ws vs) ≡ max (depth ys ws + weights weight ss) (depth ss vs)
-  depth-join [] ss ws vs h = omega arith
-  depth-join (y ∷ ys) ss ws vs h = let a = weights-append ys ss in let b = depth-join ys ss (ws .1) vs h in omega arith
 
   -- THE FIVE LAWS: a step has the text of its symbol, every value has a first step, every symbol has a value,
   -- one that opens no more than the symbol holds open, and a step keeps the nesting
@@ -199,7 +233,7 @@ module _ {Symbol Token : Type 0} (Value : Symbol → Type 0) (text : (X : Symbol
           n,
           ap (λ w. (s .build w, back Value (s .push) ss (join Value (s .push) ss ws (vs .1)))) (front-join Value (s .push) ss ws (vs .1))
               ∙ ap (λ w. (s .build ws, w)) (back-join Value (s .push) ss ws (vs .1)) ∙ ap (λ w. (w, vs .1)) b,
-          sym (ap (λ w. text X w (write ss (vs .1))) b) ∙ sound X t s n ws _ ∙ ap (λ r. t ∷ r) (sym (texts-join (s .push) ss ws (vs .1) [])),
+          sym (ap (λ w. text X w (write ss (vs .1))) b) ∙ sound X t s n ws _ ∙ ap (λ r. t ∷ r) (sym (texts-join Value text (s .push) ss ws (vs .1) [])),
         )
 
     not-empty : (X : Symbol) (ss : List Symbol) (vs : Values Value (X ∷ ss)) → ¬ (write (X ∷ ss) vs ≡ [])
@@ -224,15 +258,12 @@ module _ {Symbol Token : Type 0} (Value : Symbol → Type 0) (text : (X : Symbol
 
         -- and back: the text and the nesting of what a step makes
         write-made : (us : Values Value (s .push ++ ss)) → write (X ∷ ss) (made Value s ss us) ≡ t ∷ write (s .push ++ ss) us
-        write-made us = sound X t s n _ _ ∙ ap (λ r. t ∷ r) (sym (texts-join (s .push) ss _ _ []) ∙ ap (write (s .push ++ ss)) (join-split Value (s .push) ss us))
+        write-made us = sound X t s n _ _ ∙ ap (λ r. t ∷ r) (texts-split Value text (s .push) ss us [])
 
         depth-made : (us : Values Value (s .push ++ ss)) → depth (X ∷ ss) (made Value s ss us) ≡ max (weights weight (X ∷ ss)) (depth (s .push ++ ss) us)
         depth-made us =
             let a = deep X t s n (front Value (s .push) ss us) in
-            let l = weights-least ss (back Value (s .push) ss us) in
-            let j = depth-join (s .push) ss (front Value (s .push) ss us) (back Value (s .push) ss us) l in
-            let b : depth (s .push ++ ss) us ≡ max (depth (s .push) (front Value (s .push) ss us) + weights weight ss) (depth ss (back Value (s .push) ss us))
-            = sym (ap (depth (s .push ++ ss)) (join-split Value (s .push) ss us)) ∙ j in
+            let b = nests-split Value weight nest (s .push) ss us (weights-least ss (back Value (s .push) ss us)) in
             omega arith
 
         within : (p : List Token) → weights weight (X ∷ ss) ≤ most → WithinOf (s .push ++ ss) p → WithinOf (X ∷ ss) (t ∷ p)

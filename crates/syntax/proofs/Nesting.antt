@@ -1,19 +1,19 @@
 -- What the symbols of a stack hold open, and how deep their values nest: each row keeps the nesting.
 -- Assumes nothing.
-use mathlib.Core.Path.{_≡_, refl, sym, ap, _∙_}
+use mathlib.Core.Path.{_≡_, sym, ap, _∙_}
 use mathlib.Core.Bool.{false}
-use mathlib.Core.Option.{Option, none, some}
+use mathlib.Core.Option.{none, some}
 use mathlib.Core.List.{List, [], _∷_}
 use Prim.Native.Nat.{ℕ, _+_, _≤_, max}
 use native.Mathlib.Nat.{zero-max, max-zero}
 use native.Mathlib.Omega.{arith}
 use Rattle.words.specs.Token.{Token, Fixed, BEGIN, THEN, SEMICOLON}
-use Rattle.syntax.specs.Tree.{Primary, named, constant, bracketed, expression, alone, enough, plain, immediate}
+use Rattle.syntax.specs.Tree.{expression, alone, enough, plain, immediate, unlisted}
 use Rattle.syntax.specs.Sentence.{expressionNest, tailNest, moreNest, factorNest, primaryNest, statementsNest, otherwiseNest, processesNest, nest}
-use Rattle.syntax.proofs.Machine.{Values, Step, weights, nests}
-use Rattle.syntax.proofs.Rows.{Place, inBrackets, inCondition, inAssignment, Block, inProcess, inThen, inElse, Ending, Closing}
+use Rattle.syntax.proofs.Machine.{Values, Step, front, back, weights, nests, nests-split}
+use Rattle.syntax.proofs.Rows.{Place, inBrackets, inCondition, inAssignment, Block, inProcess, inThen, inElse, Closing}
 use Rattle.syntax.proofs.Rows.{Symbol, aDesign, aName, anInteger, aLiteral, aUnit, aFactor, aPrimary, theWord, signals, moreSignals, initialValue, processes, processBody, moreListed, beginning, closingName, closing, statements, closingIf, anExpression, aTail, aMore, anEnd}
-use Rattle.syntax.proofs.Rows.{Value, Row, row, rows, next, renamed, wordRows, closingNameRows, endRows, closeRows, primaryRows, Every, found}
+use Rattle.syntax.proofs.Rows.{Value, Row, row, rows, next, followedBy, wordRows, closingNameRows, endRows, closeRows, primaryRows, factorRows, beginningRows, Every, found}
 use Rattle.syntax.proofs.Laws.{fill, fill-closing}
 
 -- WEIGHTS: an expression in brackets holds its bracket open, the statements of an `if` their `if`; its condition stands above them
@@ -123,37 +123,38 @@ shallow (anEnd c) = omega arith
 abbrev pub Deep : (X : Symbol) → Token → Step Value X → Type 0
 Deep X t s = (ws : Values Value (s .push)) → depth X (s .build ws) ≡ max (weight X) (nests Value weight depth (s .push) ws)
 
-renamed-deep : (X Y : Symbol) (g : Value Y → Value X) (rs : List (Row Y)) → weight X ≡ weight Y → ((v : Value Y) → depth X (g v) ≡ depth Y v)
-    → Every (Deep Y) rs → Every (Deep X) (renamed g rs)
-renamed-deep X Y g [] l e h = tt
-renamed-deep X Y g (row c ys b ∷ rs) l e h = (
-  λ a ws. e (b a ws) ∙ h .0 a ws ∙ ap (λ w. max w (nests Value weight depth (ys a) ws)) (sym l),
-  renamed-deep X Y g rs l e (h .1),
+followed-deep : (X Y : Symbol) (zs : List Symbol) (g : Value Y → Values Value zs → Value X) (rs : List (Row Y)) → weight X ≡ weight Y + weights weight zs
+    → ((v : Value Y) (vs : Values Value zs) → depth X (g v vs) ≡ max (depth Y v + weights weight zs) (nests Value weight depth zs vs))
+    → ((vs : Values Value zs) → weights weight zs ≤ nests Value weight depth zs vs) → Every (Deep Y) rs → Every (Deep X) (followedBy zs g rs)
+followed-deep X Y zs g [] w e l h = tt
+followed-deep X Y zs g (row c ys b ∷ rs) w e l h = (
+  λ a ws.
+      let d = e (b a (front Value (ys a) zs ws)) (back Value (ys a) zs ws) in
+      let m = h .0 a (front Value (ys a) zs ws) in
+      let n = nests-split Value weight depth (ys a) zs ws (l (back Value (ys a) zs ws)) in
+      omega arith,
+  followed-deep X Y zs g rs w e l (h .1),
 )
 
 word-deep : (w : Fixed) → Every (Deep (theWord w)) (wordRows w)
 word-deep w = (λ a ws. omega arith, tt)
 
 closing-name-deep : Every (Deep closingName) closingNameRows
-closing-name-deep = (λ a ws. omega arith, renamed-deep closingName (theWord SEMICOLON) (λ _. none) (wordRows SEMICOLON) refl (λ v. refl) (word-deep SEMICOLON))
+closing-name-deep = (λ a ws. omega arith, followed-deep closingName (theWord SEMICOLON) [] (λ _ _. none) (wordRows SEMICOLON) (omega arith) (λ v vs. omega arith) (λ vs. omega arith) (word-deep SEMICOLON))
 
 end-deep : (c : Place) → Every (Deep (anEnd c)) (endRows c)
 end-deep inBrackets = (λ a ws. omega arith, tt)
-end-deep inCondition = renamed-deep (anEnd inCondition) (theWord THEN) (λ v. v) (wordRows THEN) refl (λ v. refl) (word-deep THEN)
-end-deep inAssignment = (λ a ws. omega arith, renamed-deep (anEnd inAssignment) (theWord SEMICOLON) (λ _. immediate) (wordRows SEMICOLON) refl (λ v. refl) (word-deep SEMICOLON))
+end-deep inCondition = followed-deep (anEnd inCondition) (theWord THEN) [] (λ v _. v) (wordRows THEN) (omega arith) (λ v vs. omega arith) (λ vs. omega arith) (word-deep THEN)
+end-deep inAssignment = (λ a ws. omega arith, followed-deep (anEnd inAssignment) (theWord SEMICOLON) [] (λ _ _. immediate) (wordRows SEMICOLON) (omega arith) (λ v vs. omega arith) (λ vs. omega arith) (word-deep SEMICOLON))
 
--- a primary nests above the symbols after it
-primary-deep : (X : Symbol) (ys : List Symbol) (f : Primary → Values Value ys → Value X)
-    → ((p : Primary) (ws : Values Value ys) → depth X (f p ws) ≡ max (weight X) (max (primaryNest p + weights weight ys) (nests Value weight depth ys ws)))
-    → ((ws : Values Value ys) → weights weight ys ≤ max (weight X) (nests Value weight depth ys ws))
-    → Every (Deep X) (primaryRows X ys f)
-primary-deep X ys f e l = (
-  λ a ws. let z = e (named a) ws in let h = l ws in omega arith,
-  (
-    λ a ws. let z = e (constant a) ws in let h = l ws in omega arith,
-    (λ a ws. let z = e (bracketed (ws .0 .0)) (ws .1) in omega arith, tt),
-  ),
-)
+primary-deep : Every (Deep aPrimary) primaryRows
+primary-deep = (λ a ws. omega arith, (λ a ws. omega arith, (λ a ws. omega arith, tt)))
+
+factor-deep : Every (Deep aFactor) factorRows
+factor-deep = (λ a ws. omega arith, followed-deep aFactor aPrimary [] (λ p _. plain p) primaryRows (omega arith) (λ v vs. omega arith) (λ vs. omega arith) primary-deep)
+
+beginning-deep : Every (Deep beginning) beginningRows
+beginning-deep = (λ a ws. omega arith, followed-deep beginning (theWord BEGIN) [] (λ _ _. false) (wordRows BEGIN) (omega arith) (λ v vs. omega arith) (λ vs. omega arith) (word-deep BEGIN))
 
 close-deep : (b : Block) → Every (Deep (statements b)) (closeRows b)
 close-deep inProcess = (λ a ws. omega arith, tt)
@@ -176,22 +177,18 @@ rows-deep aName = (λ a ws. omega arith, tt)
 rows-deep anInteger = (λ a ws. omega arith, tt)
 rows-deep aLiteral = (λ a ws. omega arith, tt)
 rows-deep aUnit = (λ a ws. omega arith, tt)
-rows-deep aFactor = (
-  λ a ws. omega arith,
-  renamed-deep aFactor aPrimary plain (primaryRows aPrimary [] (λ p _. p)) refl (λ p. refl)
-      (primary-deep aPrimary [] (λ p _. p) (λ p ws. omega arith) (λ ws. omega arith)),
-)
-rows-deep aPrimary = primary-deep aPrimary [] (λ p _. p) (λ p ws. omega arith) (λ ws. omega arith)
+rows-deep aFactor = factor-deep
+rows-deep aPrimary = primary-deep
 rows-deep (theWord w) = word-deep w
 rows-deep signals = (λ a ws. omega arith, (λ a ws. omega arith, tt))
 rows-deep moreSignals = (λ a ws. omega arith, (λ a ws. omega arith, tt))
-rows-deep initialValue = (λ a ws. omega arith, renamed-deep initialValue (theWord SEMICOLON) (λ _. none) (wordRows SEMICOLON) refl (λ v. refl) (word-deep SEMICOLON))
+rows-deep initialValue = (λ a ws. omega arith, followed-deep initialValue (theWord SEMICOLON) [] (λ _ _. none) (wordRows SEMICOLON) (omega arith) (λ v vs. omega arith) (λ vs. omega arith) (word-deep SEMICOLON))
 rows-deep processes = (λ a ws. omega arith, (λ a ws. omega arith, (λ a ws. omega arith, tt)))
-rows-deep processBody = (λ a ws. omega arith, (λ a ws. omega arith, (λ a ws. omega arith, tt)))
+rows-deep processBody = (λ a ws. omega arith, followed-deep processBody beginning (statements inProcess ∷ []) (λ i ws. (unlisted, (i, ws .0))) beginningRows (omega arith) (λ v vs. omega arith) (λ vs. omega arith) beginning-deep)
 rows-deep moreListed = (λ a ws. omega arith, (λ a ws. omega arith, tt))
-rows-deep beginning = (λ a ws. omega arith, renamed-deep beginning (theWord BEGIN) (λ _. false) (wordRows BEGIN) refl (λ v. refl) (word-deep BEGIN))
+rows-deep beginning = beginning-deep
 rows-deep closingName = closing-name-deep
-rows-deep (closing u) = (λ a ws. omega arith, renamed-deep (closing u) closingName (λ o. (false, o)) closingNameRows refl (λ o. refl) closing-name-deep)
+rows-deep (closing u) = (λ a ws. omega arith, followed-deep (closing u) closingName [] (λ o _. (false, o)) closingNameRows (omega arith) (λ v vs. omega arith) (λ vs. omega arith) closing-name-deep)
 rows-deep (statements b) = (
   λ a ws. one-more (blockWeight b) (expressionNest (ws .1 .1 .0 .0)) (statementsNest (ws .1 .1 .1 .0 .0)) (closingDepth b (ws .1 .1 .1 .0 .1)) _ _ (omega arith) (omega arith)
       ∙ sym (absorbed (blockWeight b) _ _ _ (omega arith) (omega arith)),
@@ -202,12 +199,9 @@ rows-deep (statements b) = (
   ),
 )
 rows-deep closingIf = (λ a ws. omega arith, tt)
-rows-deep (anExpression c) = (
-  λ a ws. omega arith,
-  primary-deep (anExpression c) (aTail c ∷ []) (λ p ws. (expression (plain p) (ws .0 .0), ws .0 .1)) (λ p ws. omega arith) (λ ws. omega arith),
-)
-rows-deep (aTail c) = (λ a ws. omega arith, (λ a ws. omega arith, renamed-deep (aTail c) (anEnd c) (λ a. (alone, a)) (endRows c) refl (λ a. omega arith) (end-deep c)))
-rows-deep (aMore d c) = (λ a ws. omega arith, renamed-deep (aMore d c) (anEnd c) (λ a. (enough, a)) (endRows c) refl (λ a. omega arith) (end-deep c))
+rows-deep (anExpression c) = followed-deep (anExpression c) aFactor (aTail c ∷ []) (λ f ws. (expression f (ws .0 .0), ws .0 .1)) factorRows (omega arith) (λ v vs. omega arith) (λ vs. omega arith) factor-deep
+rows-deep (aTail c) = (λ a ws. omega arith, (λ a ws. omega arith, followed-deep (aTail c) (anEnd c) [] (λ a _. (alone, a)) (endRows c) (omega arith) (λ v vs. omega arith) (λ vs. omega arith) (end-deep c)))
+rows-deep (aMore d c) = (λ a ws. omega arith, followed-deep (aMore d c) (anEnd c) [] (λ a _. (enough, a)) (endRows c) (omega arith) (λ v vs. omega arith) (λ vs. omega arith) (end-deep c))
 rows-deep (anEnd c) = end-deep c
 
 pub deep : (X : Symbol) (t : Token) (s : Step Value X) → next X t ≡ some s → Deep X t s

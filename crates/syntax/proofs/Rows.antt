@@ -1,19 +1,19 @@
 -- The grammar of document 01 as rows: each symbol takes one token and is replaced by the symbols that must follow.
 -- No symbol is ever empty: what may be missing is kept together with what must follow it. Assumes nothing.
-use mathlib.Core.Path.{_≡_, refl, ap, _∙_, sym}
+use mathlib.Core.Path.{_≡_, refl, ap}
 use mathlib.Core.Bool.{Bool, true, false}
 use mathlib.Core.Option.{Option, none, some, Option·some-injective, Option·none-ne-some}
 use mathlib.Core.List.{List, [], _∷_, _++_}
 use Prim.Native.Nat.{ℕ}
 use Rattle.words.specs.declared.unit.TimeUnit.{TimeUnit}
-use Rattle.words.specs.Token.{Name, Once, Chain, AND, OR, XOR, XNOR, Chain-discrete, Fixed, Fixed-discrete}
+use Rattle.words.specs.Token.{Name, Once, Chain, Chain-discrete, Fixed, Fixed-discrete}
 use Rattle.words.specs.Token.{ENTITY, IS, END, ARCHITECTURE, OF, SIGNAL, BEGIN, BOOLEAN, PROCESS, TRANSPORT, AFTER, IF, THEN, ELSE, NULL, NOT, OPEN, CLOSE, COMMA, COLON, SEMICOLON, ARROW, BECOMES}
 use Rattle.words.specs.Token.{Token, name, integer, literal, once, chain, unit, fixed, foreign}
 use Rattle.syntax.specs.Tree.{Expression, expression, Tail, alone, joined, chained, More, enough, more, Factor, plain, negated, Primary, named, constant, bracketed}
-use Rattle.syntax.specs.Tree.{Delay, immediate, after, Statements, done, also, Statement, assignment, conditional, null, Otherwise, missing, otherwise}
+use Rattle.syntax.specs.Tree.{Delay, immediate, after, Statements, done, also, assignment, conditional, null, Otherwise, missing, otherwise}
 use Rattle.syntax.specs.Tree.{Declaration, declaration, Sensitivity, unlisted, listed, Process, process, Design, design}
 use Rattle.syntax.specs.Tree.{expressionText, tailText, moreText, factorText, primaryText, delayText, statementsText, otherwiseText, wordText, nameText, commaText, initialText, sensitivityText, declarationsText, processesText, wholeText}
-use Rattle.syntax.proofs.Machine.{Values, Step, texts}
+use Rattle.syntax.proofs.Machine.{Values, Step, front, back}
 
 -- KINDS OF TOKENS that a row asks for
 
@@ -232,23 +232,23 @@ abbrev pub find : {X : Symbol} → List (Row X) → Token → Option (Step Value
 find [] t = none
 find (row c ys b ∷ rs) t = elim (fits c t) [ none ↦ find rs t | some a ↦ some record { push = ys (a .0); build = b (a .0) } ]
 
--- the rows of Y for X, where g makes X's value of Y's: what X may begin with is missing, and Y must follow
-abbrev pub renamed : {X Y : Symbol} → (Value Y → Value X) → List (Row Y) → List (Row X)
-renamed g [] = []
-renamed g (row c ys b ∷ rs) = row c ys (λ a ws. g (b a ws)) ∷ renamed g rs
+-- the rows of Y for X, where g makes X's value of Y's and of those of zs: what X may begin with is missing, and Y and zs must follow
+abbrev pub followedBy : {X Y : Symbol} (zs : List Symbol) → (Value Y → Values Value zs → Value X) → List (Row Y) → List (Row X)
+followedBy zs g [] = []
+followedBy zs g (row c ys b ∷ rs) = row c (λ a. ys a ++ zs) (λ a ws. g (b a (front Value (ys a) zs ws)) (back Value (ys a) zs ws)) ∷ followedBy zs g rs
 
 abbrev pub wordRows : (w : Fixed) → List (Row (theWord w))
 wordRows w = row (theFixed w) (λ _. []) (λ _ _. tt) ∷ []
 
 abbrev pub closingNameRows : List (Row closingName)
-closingNameRows = row anyName (λ _. theWord SEMICOLON ∷ []) (λ n _. some n) ∷ renamed (λ _. none) (wordRows SEMICOLON)
+closingNameRows = row anyName (λ _. theWord SEMICOLON ∷ []) (λ n _. some n) ∷ followedBy [] (λ _ _. none) (wordRows SEMICOLON)
 
 -- what must follow an expression
 abbrev pub endRows : (c : Place) → List (Row (anEnd c))
-endRows inBrackets = renamed (λ v. v) (wordRows CLOSE)
-endRows inCondition = renamed (λ v. v) (wordRows THEN)
+endRows inBrackets = followedBy [] (λ v _. v) (wordRows CLOSE)
+endRows inCondition = followedBy [] (λ v _. v) (wordRows THEN)
 endRows inAssignment = row (theFixed AFTER) (λ _. anInteger ∷ aUnit ∷ theWord SEMICOLON ∷ []) (λ _ ws. after (ws .0) (ws .1 .0))
-    ∷ renamed (λ _. immediate) (wordRows SEMICOLON)
+    ∷ followedBy [] (λ _ _. immediate) (wordRows SEMICOLON)
 
 -- what closes statements
 abbrev pub closeRows : (b : Block) → List (Row (statements b))
@@ -257,11 +257,16 @@ closeRows inThen = row (theFixed ELSE) (λ _. statements inElse ∷ []) (λ _ ws
     ∷ row (theFixed END) (λ _. closingIf ∷ []) (λ _ _. (done, missing)) ∷ []
 closeRows inElse = row (theFixed END) (λ _. closingIf ∷ []) (λ _ _. (done, tt)) ∷ []
 
--- a primary, and the symbols ys after it
-abbrev pub primaryRows : (X : Symbol) (ys : List Symbol) → (Primary → Values Value ys → Value X) → List (Row X)
-primaryRows X ys f = row anyName (λ _. ys) (λ n ws. f (named n) ws)
-    ∷ row anyLiteral (λ _. ys) (λ b ws. f (constant b) ws)
-    ∷ row (theFixed OPEN) (λ _. anExpression inBrackets ∷ ys) (λ _ ws. f (bracketed (ws .0 .0)) (ws .1)) ∷ []
+abbrev pub primaryRows : List (Row aPrimary)
+primaryRows = row anyName (λ _. []) (λ n _. named n)
+    ∷ row anyLiteral (λ _. []) (λ b _. constant b)
+    ∷ row (theFixed OPEN) (λ _. anExpression inBrackets ∷ []) (λ _ ws. bracketed (ws .0 .0)) ∷ []
+
+abbrev pub factorRows : List (Row aFactor)
+factorRows = row (theFixed NOT) (λ _. aPrimary ∷ []) (λ _ ws. negated (ws .0)) ∷ followedBy [] (λ p _. plain p) primaryRows
+
+abbrev pub beginningRows : List (Row beginning)
+beginningRows = row (theFixed IS) (λ _. theWord BEGIN ∷ []) (λ _ _. true) ∷ followedBy [] (λ _ _. false) (wordRows BEGIN)
 
 -- the process of a label and of what follows its word
 abbrev pub labelled : Option Name → Value processBody → Process
@@ -276,25 +281,24 @@ rows aName = row anyName (λ _. []) (λ n _. n) ∷ []
 rows anInteger = row anyInteger (λ _. []) (λ n _. n) ∷ []
 rows aLiteral = row anyLiteral (λ _. []) (λ b _. b) ∷ []
 rows aUnit = row anyUnit (λ _. []) (λ u _. u) ∷ []
-rows aFactor = row (theFixed NOT) (λ _. aPrimary ∷ []) (λ _ ws. negated (ws .0)) ∷ renamed plain (primaryRows aPrimary [] (λ p _. p))
-rows aPrimary = primaryRows aPrimary [] (λ p _. p)
+rows aFactor = factorRows
+rows aPrimary = primaryRows
 rows (theWord w) = wordRows w
 rows signals = row (theFixed SIGNAL) (λ _. aName ∷ moreSignals ∷ signals ∷ []) (λ _ ws. declaration (ws .0) (ws .1 .0 .0) (ws .1 .0 .1) ∷ ws .1 .1 .0)
     ∷ row (theFixed BEGIN) (λ _. []) (λ _ _. []) ∷ []
 rows moreSignals = row (theFixed COMMA) (λ _. aName ∷ moreSignals ∷ []) (λ _ ws. (ws .0 ∷ ws .1 .0 .0, ws .1 .0 .1))
     ∷ row (theFixed COLON) (λ _. theWord BOOLEAN ∷ initialValue ∷ []) (λ _ ws. ([], ws .1 .0)) ∷ []
-rows initialValue = row (theFixed BECOMES) (λ _. aLiteral ∷ theWord SEMICOLON ∷ []) (λ _ ws. some (ws .0)) ∷ renamed (λ _. none) (wordRows SEMICOLON)
+rows initialValue = row (theFixed BECOMES) (λ _. aLiteral ∷ theWord SEMICOLON ∷ []) (λ _ ws. some (ws .0)) ∷ followedBy [] (λ _ _. none) (wordRows SEMICOLON)
 rows processes = row anyName (λ _. theWord COLON ∷ theWord PROCESS ∷ processBody ∷ processes ∷ []) (λ n ws. labelled (some n) (ws .1 .1 .0) ∷ ws .1 .1 .1 .0)
     ∷ row (theFixed PROCESS) (λ _. processBody ∷ processes ∷ []) (λ _ ws. labelled none (ws .0) ∷ ws .1 .0)
     ∷ row (theFixed END) (λ _. []) (λ _ _. []) ∷ []
 rows processBody = row (theFixed OPEN) (λ _. aName ∷ moreListed ∷ beginning ∷ statements inProcess ∷ [])
     (λ _ ws. (listed (ws .0) (ws .1 .0), (ws .1 .1 .0, ws .1 .1 .1 .0)))
-    ∷ row (theFixed IS) (λ _. theWord BEGIN ∷ statements inProcess ∷ []) (λ _ ws. (unlisted, (true, ws .1 .0)))
-    ∷ row (theFixed BEGIN) (λ _. statements inProcess ∷ []) (λ _ ws. (unlisted, (false, ws .0))) ∷ []
+    ∷ followedBy (statements inProcess ∷ []) (λ i ws. (unlisted, (i, ws .0))) beginningRows
 rows moreListed = row (theFixed COMMA) (λ _. aName ∷ moreListed ∷ []) (λ _ ws. ws .0 ∷ ws .1 .0) ∷ row (theFixed CLOSE) (λ _. []) (λ _ _. []) ∷ []
-rows beginning = row (theFixed IS) (λ _. theWord BEGIN ∷ []) (λ _ _. true) ∷ renamed (λ _. false) (wordRows BEGIN)
+rows beginning = beginningRows
 rows closingName = closingNameRows
-rows (closing u) = row (theFixed (partWord u)) (λ _. closingName ∷ []) (λ _ ws. (true, ws .0)) ∷ renamed (λ o. (false, o)) closingNameRows
+rows (closing u) = row (theFixed (partWord u)) (λ _. closingName ∷ []) (λ _ ws. (true, ws .0)) ∷ followedBy [] (λ o _. (false, o)) closingNameRows
 rows (statements b) = row anyName (λ _. theWord ARROW ∷ theWord TRANSPORT ∷ anExpression inAssignment ∷ statements b ∷ [])
     (λ n ws. (also (assignment n (ws .1 .1 .0 .0) (ws .1 .1 .0 .1)) (ws .1 .1 .1 .0 .0), ws .1 .1 .1 .0 .1))
     ∷ row (theFixed IF) (λ _. anExpression inCondition ∷ statements inThen ∷ statements b ∷ [])
@@ -302,13 +306,12 @@ rows (statements b) = row anyName (λ _. theWord ARROW ∷ theWord TRANSPORT ∷
     ∷ row (theFixed NULL) (λ _. theWord SEMICOLON ∷ statements b ∷ []) (λ _ ws. (also null (ws .1 .0 .0), ws .1 .0 .1))
     ∷ closeRows b
 rows closingIf = row (theFixed IF) (λ _. theWord SEMICOLON ∷ []) (λ _ _. tt) ∷ []
-rows (anExpression c) = row (theFixed NOT) (λ _. aPrimary ∷ aTail c ∷ []) (λ _ ws. (expression (negated (ws .0)) (ws .1 .0 .0), ws .1 .0 .1))
-    ∷ primaryRows (anExpression c) (aTail c ∷ []) (λ p ws. (expression (plain p) (ws .0 .0), ws .0 .1))
+rows (anExpression c) = followedBy (aTail c ∷ []) (λ f ws. (expression f (ws .0 .0), ws .0 .1)) factorRows
 rows (aTail c) = row anyOnce (λ _. aFactor ∷ anEnd c ∷ []) (λ o ws. (joined o (ws .0), ws .1 .0))
     ∷ row anyChain (λ d. aFactor ∷ aMore d c ∷ []) (λ d ws. (chained d (ws .0) (ws .1 .0 .0), ws .1 .0 .1))
-    ∷ renamed (λ a. (alone, a)) (endRows c)
+    ∷ followedBy [] (λ a _. (alone, a)) (endRows c)
 rows (aMore d c) = row (theChain d) (λ _. aFactor ∷ aMore d c ∷ []) (λ _ ws. (more (ws .0) (ws .1 .0 .0), ws .1 .0 .1))
-    ∷ renamed (λ a. (enough, a)) (endRows c)
+    ∷ followedBy [] (λ a _. (enough, a)) (endRows c)
 rows (anEnd c) = endRows c
 
 -- what a symbol does with a token

@@ -2,17 +2,17 @@
 -- Assumes nothing: these are definitions.
 use Prim.Native.Nat.{ℕ, suc, _+_, _<_, _≤_, max}
 use native.Mathlib.Omega.{arith}
-use mathlib.Core.Path.{_≡_, refl, sym}
-use mathlib.Core.Bool.{Bool, true, false}
-use mathlib.Core.Option.{Option, none}
+use mathlib.Core.Path.{_≡_, refl}
+use mathlib.Core.Bool.{false}
+use mathlib.Core.Option.{none}
 use mathlib.Core.List.{List, [], _∷_, _++_, cons≢nil}
-use mathlib.Core.Logic.{_⊎_, inl, inr}
+use mathlib.Core.Logic.{_⊎_, inr}
 use lib.ListN.{length, take}
 use Rattle.laws.specs.Text.{bytes}
-use Rattle.words.specs.Token.{Token, Name}
+use Rattle.words.specs.Token.{Token}
 use Rattle.syntax.specs.Tree.{Expression, expression, Tail, alone, joined, chained, More, enough, more, Factor, plain, negated, Primary, named, constant, bracketed}
-use Rattle.syntax.specs.Tree.{Statements, done, also, Statement, assignment, conditional, null, Otherwise, missing, otherwise, immediate}
-use Rattle.syntax.specs.Tree.{Process, process, unlisted, listed, Design, design, designText}
+use Rattle.syntax.specs.Tree.{Statements, done, also, Statement, assignment, conditional, null, Otherwise, missing, otherwise}
+use Rattle.syntax.specs.Tree.{Process, process, listed, Design, design, designText}
 
 -- 32 open brackets and `if`s together
 abbrev pub mostOpen : ℕ
@@ -121,9 +121,12 @@ nest-example : nest (smallest (conditional (expression (plain (bracketed (expres
     (also (conditional (expression (plain (bracketed (expression (negated (bracketed (expression (plain (named (bytes "q"))) alone))) alone))) alone) (also null done) missing) done) missing)) ≡ 4
 nest-example = refl
 
--- the empty text: 3 at its end
-right-example : Right [] (refused3 0)
-right-example = record {
+-- its text with one `null` is accepted, and the empty text is refused 3 at its end
+accepted-example : Right (designText (smallest null)) (accepted (smallest null))
+accepted-example = (refl, omega arith)
+
+refused-example : Right [] (refused3 0)
+refused-example = record {
   before = (smallest null, omega arith, _, refl);
   here = inr (refl, λ (d, e). none-empty d e);
 }
