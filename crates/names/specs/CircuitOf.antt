@@ -1,11 +1,14 @@
 -- The circuit that a design stands for, and the names that its dump shows.
 -- Every name is taken for its number among the declared signals, so this is meant for designs whose names are declared. Assumes nothing: these are definitions.
 use Prim.Native.Nat.{ℕ, _*_}
+use mathlib.Core.Path.{_≡_, refl}
 use mathlib.Core.Bool.{Bool, true, false}
 use mathlib.Core.Option.{Option, none, some}
-use mathlib.Core.List.{List, [], _∷_, _++_, map}
+use mathlib.Core.List.{List, [], _∷_, _++_}
 use lib.Dec.{eqb}
-use Rattle.laws.specs.Pick.{pick}
+use Rattle.laws.specs.Pick.{pick, sameList}
+use Rattle.laws.specs.Text.{bytes}
+use Rattle.words.specs.declared.unit.TimeUnit.the-variants.{Us}
 use Rattle.words.specs.Token.{Name, Once, NAND, NOR, Chain, AND, OR, XOR, XNOR}
 use Rattle.words.specs.Unit.{femtosecondsOf}
 use Rattle.syntax.specs.Tree.{Expression, Tail, More, Factor, Primary, expression, alone, joined, chained, enough, more, plain, negated, named, constant, bracketed}
@@ -116,3 +119,25 @@ signalNames (design e w c a o ds ps w′ c′) = declaredNames ds
 
 abbrev pub circuitOf : Design → Circuit
 circuitOf (design e w c a o ds ps w′ c′) = record { initial = declaredValues ds; processes = activitiesOf (declaredNames ds) ps }
+
+-- EXAMPLES, over the signals q and d
+
+once-each : distinct (1 ∷ 0 ∷ 1 ∷ []) ≡ 1 ∷ 0 ∷ []
+once-each = refl
+
+-- q xor d xor true: from the left
+from-the-left : expressionFormula (expression (plain (named (bytes "q"))) (chained XOR (plain (named (bytes "d"))) (more (plain (constant true)) enough))) (bytes "q" ∷ bytes "d" ∷ [])
+    ≡ Formula.combined Operator.XOR (Formula.combined Operator.XOR (Formula.signal 0) (Formula.signal 1)) (Formula.constant true)
+unfolding sameList
+from-the-left = refl
+
+-- if q then d <= transport true after 2 us; end if;
+one-arm : statementsActions (also (conditional (expression (plain (named (bytes "q"))) alone)
+    (also (assignment (bytes "d") (expression (plain (constant true)) alone) (after 2 Us)) done) missing) done) (bytes "q" ∷ bytes "d" ∷ [])
+    ≡ Actions.branch (Formula.signal 0) (Actions.assign 1 (Formula.constant true) 2_000_000_000 Actions.done) Actions.done Actions.done
+unfolding sameList
+one-arm = refl
+
+-- signal q : boolean := true; signal d : boolean;
+starting : declaredValues (declaration (bytes "q") [] (some true) ∷ declaration (bytes "d") [] none ∷ []) ≡ true ∷ false ∷ []
+starting = refl

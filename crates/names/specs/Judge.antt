@@ -61,21 +61,71 @@ pub record State : Type 0 where
 abbrev pub start : State
 start = record { signalNames = []; labelNames = []; processes = 0; earlier = []; current = []; instructions = 0 }
 
-abbrev pub counted : ℕ → State → State
-counted k y = record { signalNames = y .signalNames; labelNames = y .labelNames; processes = y .processes; earlier = y .earlier; current = y .current; instructions = y .instructions + k }
+abbrev pub declared : Name → State → State
+declared n y =
+    record {
+      signalNames = y .signalNames ++ (n ∷ []);
+      labelNames = y .labelNames;
+      processes = y .processes;
+      earlier = y .earlier;
+      current = y .current;
+      instructions = y .instructions;
+    }
+
+abbrev pub labelled : Name → State → State
+labelled n y =
+    record {
+      signalNames = y .signalNames;
+      labelNames = n ∷ y .labelNames;
+      processes = y .processes;
+      earlier = y .earlier;
+      current = y .current;
+      instructions = y .instructions;
+    }
+
+abbrev pub opened : State → State
+opened y =
+    record {
+      signalNames = y .signalNames;
+      labelNames = y .labelNames;
+      processes = y .processes + 1;
+      earlier = y .current ++ y .earlier;
+      current = [];
+      instructions = y .instructions;
+    }
 
 abbrev pub assigned : ℕ → State → State
-assigned k y = record { signalNames = y .signalNames; labelNames = y .labelNames; processes = y .processes; earlier = y .earlier; current = k ∷ y .current; instructions = y .instructions }
+assigned k y =
+    record {
+      signalNames = y .signalNames;
+      labelNames = y .labelNames;
+      processes = y .processes;
+      earlier = y .earlier;
+      current = k ∷ y .current;
+      instructions = y .instructions;
+    }
 
+abbrev pub counted : ℕ → State → State
+counted k y =
+    record {
+      signalNames = y .signalNames;
+      labelNames = y .labelNames;
+      processes = y .processes;
+      earlier = y .earlier;
+      current = y .current;
+      instructions = y .instructions + k;
+    }
+
+-- a token has been judged: it changes what is known by its role
 abbrev pub next : State → Role → State
-next y (declares n) = record { signalNames = y .signalNames ++ (n ∷ []); labelNames = y .labelNames; processes = y .processes; earlier = y .earlier; current = y .current; instructions = y .instructions }
-next y (labels n) = record { signalNames = y .signalNames; labelNames = n ∷ y .labelNames; processes = y .processes; earlier = y .earlier; current = y .current; instructions = y .instructions }
+next y (declares n) = declared n y
+next y (labels n) = labelled n y
 next y (listens n) = y
 next y (reads n) = counted 1 y
 next y (assigns n) = counted 1 (assigned (numberOf n (y .signalNames)) y)
 next y (belongs e n) = y
 next y (closes o n) = y
-next y opens = record { signalNames = y .signalNames; labelNames = y .labelNames; processes = y .processes + 1; earlier = y .current ++ y .earlier; current = []; instructions = y .instructions }
+next y opens = opened y
 next y (delays n u) = y
 next y (counts k) = counted k y
 next y passes = y

@@ -1,10 +1,13 @@
 -- What each token of a design is for, in text order: one role for one token, with the names and numbers that its rules compare.
 -- Assumes nothing: these are definitions.
 use Prim.Native.Nat.{ℕ}
+use mathlib.Core.Path.{_≡_, refl}
 use mathlib.Core.Bool.{Bool, true, false}
 use mathlib.Core.Option.{Option, none, some}
 use mathlib.Core.List.{List, [], _∷_}
+use Rattle.laws.specs.Text.{bytes}
 use Rattle.words.specs.declared.unit.TimeUnit.{TimeUnit}
+use Rattle.words.specs.declared.unit.TimeUnit.the-variants.{Ns}
 use Rattle.words.specs.Token.{Name}
 use Rattle.syntax.specs.Tree.{Expression, Tail, More, Factor, Primary, expression, alone, joined, chained, enough, more, plain, negated, named, constant, bracketed}
 use Rattle.syntax.specs.Tree.{Delay, Statements, Statement, Otherwise, immediate, after, done, also, assignment, conditional, null, missing, otherwise}
@@ -119,3 +122,8 @@ designRoles (design e w c a o ds ps w′ c′) =
     passes ∷ passes ∷ passes ∷ passes ∷ wordRoles w (closingRoles (some e) c (passes
     ∷ passes ∷ passes ∷ passes ∷ belongs e o ∷ passes ∷ declarationsRoles ds (passes ∷ processesRoles ps (passes
     ∷ wordRoles w′ (closingRoles (some a) c′ (passes ∷ []))))))
+
+-- q <= transport not q after 3 ns;
+roles-example : statementRoles (assignment (bytes "q") (expression (negated (named (bytes "q"))) alone) (after 3 Ns)) []
+    ≡ assigns (bytes "q") ∷ passes ∷ passes ∷ counts 1 ∷ reads (bytes "q") ∷ passes ∷ delays 3 Ns ∷ passes ∷ passes ∷ []
+roles-example = refl

@@ -1,13 +1,13 @@
 -- The sizes of document 01 as they stand in a circuit: what the translation to a table leans on.
 -- Assumes nothing: these are definitions.
 use Prim.Native.Nat.{ℕ, suc, _+_, _≤_, _<_, max}
-use mathlib.Core.Path.{_≡_}
+use mathlib.Core.Path.{_≡_, refl}
 use mathlib.Core.Bool.{Bool, true, false, _||_}
 use mathlib.Core.List.{List, [], _∷_}
 use lib.Dec.{eqb}
 use lib.ListN.{length}
 use Rattle.words.specs.Unit.{longest}
-use Rattle.syntax.specs.Circuit.{Formula, Actions, Activity, Circuit}
+use Rattle.syntax.specs.Circuit.{Operator, Formula, Actions, Activity, Circuit}
 use Rattle.names.specs.Judge.{mostSignals, mostProcesses, mostInstructions}
 
 -- INSTRUCTIONS: one for each name or literal, operator and assignment, two for each `if`, none for `null`
@@ -96,3 +96,16 @@ pub record Sized (c : Circuit) : Type 0 where
   pub parts : ProcessesSized (length (c .initial)) (c .processes)
   pub operands : ProcessesNarrow (c .processes)
   pub apart : Apart (c .processes)
+
+-- EXAMPLES: if s0 then s1 <= transport s0 nand (not s1 nand s0); end if; null;
+
+abbrev formula : Formula
+formula = Formula.combined Operator.NAND (Formula.signal 0) (Formula.combined Operator.NAND (Formula.negated (Formula.signal 1)) (Formula.signal 0))
+
+-- 6 of the formula, 1 of the assignment, 1 of the condition, 2 of the `if`
+ten : actionsInstructions (Actions.branch (Formula.signal 0) (Actions.assign 1 formula 0 Actions.done) Actions.done (Actions.null Actions.done)) ≡ 10
+ten = refl
+
+-- s0 and s1 wait while s0 is fetched
+three : formulaOperands formula ≡ 3
+three = refl
