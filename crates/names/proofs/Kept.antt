@@ -17,12 +17,15 @@ use Rattle.syntax.specs.Tree.{Expression, Tail, More, Factor, Primary, expressi
 use Rattle.syntax.specs.Tree.{Delay, Statements, Statement, Otherwise, immediate, after, done, also, assignment, conditional, null, missing, otherwise}
 use Rattle.syntax.specs.Tree.{Declaration, Sensitivity, Process, Design, declaration, unlisted, listed, process, design}
 use Rattle.syntax.specs.Circuit.{Operator, Formula, Actions, Activity, Circuit}
+use Rattle.syntax.specs.Sentence.{mostOpen, expressionNest, statementsNest, statementNest, otherwiseNest, processesNest}
+use Rattle.rules.specs.Formulas.{size}
+use Rattle.rules.specs.Statements
+use Rattle.rules.specs.Sized.{instructions, total, Known, Keeps, Listed, operands}
 use Rattle.names.specs.Roles.{Role, declares, labels, listens, reads, assigns, belongs, closes, opens, delays, counts, passes, expressionRoles, tailRoles, moreRoles, factorRoles, primaryRoles, delayRoles, statementsRoles, statementRoles, otherwiseRoles, wordRoles, closingRoles, labelRoles, commaRoles, initialRoles, declarationRoles, sensitivityRoles, processRoles, declarationsRoles, processesRoles, designRoles}
 use Rattle.names.specs.Judge.{State, isAmong, numberOf, has, faults, next, start}
 use Rattle.names.specs.CircuitOf.{onceOperator, chainOperator, expressionFormula, tailFormula, moreFormula, factorFormula, primaryFormula, delayFemtoseconds, statementsActions, statementActions, otherwiseActions, without, distinct, listNames, numbers, activityOf, activitiesOf, declaredNames, declaredValues, eachValue, startingValue}
-use Rattle.names.specs.Sized.{formulaInstructions, actionsInstructions, processesInstructions, FormulaSized, ActionsSized, AllBelow, ProcessesSized, anyAssigns, Apart}
-use Rattle.names.specs.Sized
 use Rattle.names.proofs.Verdict.{Clear}
+use Rattle.names.proofs.Operands.{expressionOperands}
 
 -- the tokens are all fine, and lead from the state y to the state z
 abbrev pub Leads : State → State → List Role → Type 0
@@ -65,40 +68,42 @@ module _ (z : State) (ns : List Name) where
     moved c R h l = rw h at l
 
     mutual
-      expressionKept : (x : Expression) (c : List ℕ) (m k : ℕ) (R : List Role) → m + formulaInstructions (expressionFormula x ns) ≡ k
-          → Leads z (within ls q e c m) (expressionRoles x R) → FormulaSized (length ns) (expressionFormula x ns) × Leads z (within ls q e c k) R
+      unfolding size Known
+
+      expressionKept : (x : Expression) (c : List ℕ) (m k : ℕ) (R : List Role) → m + size (expressionFormula x ns) ≡ k
+          → Leads z (within ls q e c m) (expressionRoles x R) → Known (length ns) (expressionFormula x ns) × Leads z (within ls q e c k) R
       expressionKept (expression f t) c m k R h l =
-          let a = factorKept f c m (m + formulaInstructions (factorFormula f ns)) (tailRoles t R) refl l in
-          tailKept t (factorFormula f ns) c (m + formulaInstructions (factorFormula f ns)) k R (omega arith) (a .0) (a .1)
+          let a = factorKept f c m (m + size (factorFormula f ns)) (tailRoles t R) refl l in
+          tailKept t (factorFormula f ns) c (m + size (factorFormula f ns)) k R (omega arith) (a .0) (a .1)
 
       tailKept : (t : Tail) (a : Formula) (c : List ℕ) (m k : ℕ) (R : List Role)
-          → m + formulaInstructions (tailFormula t ns a) ≡ k + formulaInstructions a → FormulaSized (length ns) a
-          → Leads z (within ls q e c m) (tailRoles t R) → FormulaSized (length ns) (tailFormula t ns a) × Leads z (within ls q e c k) R
+          → m + size (tailFormula t ns a) ≡ k + size a → Known (length ns) a
+          → Leads z (within ls q e c m) (tailRoles t R) → Known (length ns) (tailFormula t ns a) × Leads z (within ls q e c k) R
       tailKept alone a c m k R h s l = (s, moved c R (omega arith) l)
       tailKept (joined o f) a c m k R h s l =
           let b = factorKept f c (m + 1) k R (omega arith) (l .1) in
           ((s, b .0), b .1)
       tailKept (chained o f r) a c m k R h s l =
-          let b = factorKept f c (m + 1) (m + 1 + formulaInstructions (factorFormula f ns)) (moreRoles r R) refl (l .1) in
-          moreKept r o (Formula.combined (chainOperator o) a (factorFormula f ns)) c (m + 1 + formulaInstructions (factorFormula f ns)) k R
+          let b = factorKept f c (m + 1) (m + 1 + size (factorFormula f ns)) (moreRoles r R) refl (l .1) in
+          moreKept r o (Formula.combined (chainOperator o) a (factorFormula f ns)) c (m + 1 + size (factorFormula f ns)) k R
           (omega arith) (s, b .0) (b .1)
 
       moreKept : (r : More) (o : Chain) (a : Formula) (c : List ℕ) (m k : ℕ) (R : List Role)
-          → m + formulaInstructions (moreFormula r ns o a) ≡ k + formulaInstructions a → FormulaSized (length ns) a
-          → Leads z (within ls q e c m) (moreRoles r R) → FormulaSized (length ns) (moreFormula r ns o a) × Leads z (within ls q e c k) R
+          → m + size (moreFormula r ns o a) ≡ k + size a → Known (length ns) a
+          → Leads z (within ls q e c m) (moreRoles r R) → Known (length ns) (moreFormula r ns o a) × Leads z (within ls q e c k) R
       moreKept enough o a c m k R h s l = (s, moved c R (omega arith) l)
       moreKept (more f r) o a c m k R h s l =
-          let b = factorKept f c (m + 1) (m + 1 + formulaInstructions (factorFormula f ns)) (moreRoles r R) refl (l .1) in
-          moreKept r o (Formula.combined (chainOperator o) a (factorFormula f ns)) c (m + 1 + formulaInstructions (factorFormula f ns)) k R
+          let b = factorKept f c (m + 1) (m + 1 + size (factorFormula f ns)) (moreRoles r R) refl (l .1) in
+          moreKept r o (Formula.combined (chainOperator o) a (factorFormula f ns)) c (m + 1 + size (factorFormula f ns)) k R
           (omega arith) (s, b .0) (b .1)
 
-      factorKept : (f : Factor) (c : List ℕ) (m k : ℕ) (R : List Role) → m + formulaInstructions (factorFormula f ns) ≡ k
-          → Leads z (within ls q e c m) (factorRoles f R) → FormulaSized (length ns) (factorFormula f ns) × Leads z (within ls q e c k) R
+      factorKept : (f : Factor) (c : List ℕ) (m k : ℕ) (R : List Role) → m + size (factorFormula f ns) ≡ k
+          → Leads z (within ls q e c m) (factorRoles f R) → Known (length ns) (factorFormula f ns) × Leads z (within ls q e c k) R
       factorKept (plain p) c m k R h l = primaryKept p c m k R h l
       factorKept (negated p) c m k R h l = primaryKept p c (m + 1) k R (omega arith) (l .1)
 
-      primaryKept : (p : Primary) (c : List ℕ) (m k : ℕ) (R : List Role) → m + formulaInstructions (primaryFormula p ns) ≡ k
-          → Leads z (within ls q e c m) (primaryRoles p R) → FormulaSized (length ns) (primaryFormula p ns) × Leads z (within ls q e c k) R
+      primaryKept : (p : Primary) (c : List ℕ) (m k : ℕ) (R : List Role) → m + size (primaryFormula p ns) ≡ k
+          → Leads z (within ls q e c m) (primaryRoles p R) → Known (length ns) (primaryFormula p ns) × Leads z (within ls q e c k) R
       primaryKept (named n) c m k R h l = (declared-below n ns (l .0 .0), moved c R h (l .1))
       primaryKept (constant b) c m k R h l = (tt, moved c R h (l .1))
       primaryKept (bracketed x) c m k R h l =
@@ -111,42 +116,47 @@ module _ (z : State) (ns : List Name) where
 
     -- what actions keep, and where the tokens go on
     abbrev Kept : Actions → List ℕ → ℕ → List Role → Type 0
-    Kept r c k R = ActionsSized (length ns) r × Free e r × Leads z (within ls q e (collect r c) k) R
+    Kept r c k R = Keeps (length ns) r × Free e r × Leads z (within ls q e (collect r c) k) R
 
     mutual
-      statementsKept : (ss : Statements) (c : List ℕ) (m k : ℕ) (R : List Role) → m + actionsInstructions (statementsActions ss ns) ≡ k
-          → Leads z (within ls q e c m) (statementsRoles ss R) → Kept (statementsActions ss ns) c k R
-      statementsKept done c m k R h l = (tt, tt, moved c R (omega arith) l)
-      statementsKept (also s ss) c m k R h l =
-          statementKept s (statementsActions ss ns) c m k (statementsRoles ss R) R h l (λ c′ m′ h′ l′. statementsKept ss c′ m′ k R h′ l′)
+      unfolding instructions Keeps
 
-      -- a statement in front of the actions r, whose tokens lead on to R
-      statementKept : (s : Statement) (r : Actions) (c : List ℕ) (m k : ℕ) (S R : List Role)
-          → m + actionsInstructions (statementActions s ns r) ≡ k → Leads z (within ls q e c m) (statementRoles s S)
-          → ((c′ : List ℕ) (m′ : ℕ) → m′ + actionsInstructions r ≡ k → Leads z (within ls q e c′ m′) S → Kept r c′ k R)
+      statementsKept : (ss : Statements) (c : List ℕ) (m k : ℕ) (R : List Role) → statementsNest ss ≤ mostOpen
+          → m + instructions (statementsActions ss ns) ≡ k
+          → Leads z (within ls q e c m) (statementsRoles ss R) → Kept (statementsActions ss ns) c k R
+      statementsKept done c m k R w h l = (tt, tt, moved c R (omega arith) l)
+      statementsKept (also s ss) c m k R w h l =
+          statementKept s (statementsActions ss ns) c m k (statementsRoles ss R) R (omega arith) h l
+          (λ c′ m′ h′ l′. statementsKept ss c′ m′ k R (omega arith) h′ l′)
+
+      -- a statement in front of the actions r, whose tokens S lead on to R
+      statementKept : (s : Statement) (r : Actions) (c : List ℕ) (m k : ℕ) (S R : List Role) → statementNest s ≤ mostOpen
+          → m + instructions (statementActions s ns r) ≡ k → Leads z (within ls q e c m) (statementRoles s S)
+          → ((c′ : List ℕ) (m′ : ℕ) → m′ + instructions r ≡ k → Leads z (within ls q e c′ m′) S → Kept r c′ k R)
           → Kept (statementActions s ns r) c k R
-      statementKept (assignment n x d) r c m k S R h l f =
-          let i = formulaInstructions (expressionFormula x ns) in
+      statementKept (assignment n x d) r c m k S R w h l f =
+          let i = size (expressionFormula x ns) in
           let a = expressionKept x (numberOf n ns ∷ c) (m + 1) (m + 1 + i) (delayRoles d (passes ∷ S)) refl (l .1 .1 .1) in
           let b = delayKept d (within ls q e (numberOf n ns ∷ c) (m + 1 + i)) S (a .1) in
           let g = f (numberOf n ns ∷ c) (m + 1 + i) (omega arith) (b .1) in
-          ((declared-below n ns (l .0 .0), a .0, b .0, g .0), (l .0 .1 .0, g .1), g .2)
-      statementKept (conditional x ss o) r c m k S R h l f =
-          let i = formulaInstructions (expressionFormula x ns) in
-          let j = actionsInstructions (statementsActions ss ns) in
-          let j′ = actionsInstructions (otherwiseActions o ns) in
+          ((declared-below n ns (l .0 .0), b .0, omega (arith, expressionOperands ns x), a .0, g .0), (l .0 .1 .0, g .1), g .2)
+      statementKept (conditional x ss o) r c m k S R w h l f =
+          let i = size (expressionFormula x ns) in
+          let j = instructions (statementsActions ss ns) in
+          let j′ = instructions (otherwiseActions o ns) in
           let S′ = passes ∷ passes ∷ passes ∷ S in
           let a = expressionKept x c (m + 2) (m + 2 + i) (passes ∷ statementsRoles ss (otherwiseRoles o S′)) refl (l .1) in
-          let b = statementsKept ss c (m + 2 + i) (m + 2 + i + j) (otherwiseRoles o S′) refl (a .1 .1) in
-          let b′ = otherwiseKept o (collect (statementsActions ss ns) c) (m + 2 + i + j) (m + 2 + i + j + j′) S′ refl (b .2) in
+          let b = statementsKept ss c (m + 2 + i) (m + 2 + i + j) (otherwiseRoles o S′) (omega arith) refl (a .1 .1) in
+          let b′ = otherwiseKept o (collect (statementsActions ss ns) c) (m + 2 + i + j) (m + 2 + i + j + j′) S′ (omega arith) refl (b .2) in
           let g = f (collect (otherwiseActions o ns) (collect (statementsActions ss ns) c)) (m + 2 + i + j + j′) (omega arith) (b′ .2 .1 .1 .1) in
-          ((a .0, b .0, b′ .0, g .0), (b .1, b′ .1, g .1), g .2)
-      statementKept null r c m k S R h l f = f c m h (l .1 .1)
+          ((omega (arith, expressionOperands ns x), a .0, b .0, b′ .0, g .0), (b .1, b′ .1, g .1), g .2)
+      statementKept null r c m k S R w h l f = f c m h (l .1 .1)
 
-      otherwiseKept : (o : Otherwise) (c : List ℕ) (m k : ℕ) (R : List Role) → m + actionsInstructions (otherwiseActions o ns) ≡ k
+      otherwiseKept : (o : Otherwise) (c : List ℕ) (m k : ℕ) (R : List Role) → otherwiseNest o ≤ mostOpen
+          → m + instructions (otherwiseActions o ns) ≡ k
           → Leads z (within ls q e c m) (otherwiseRoles o R) → Kept (otherwiseActions o ns) c k R
-      otherwiseKept missing c m k R h l = (tt, tt, moved c R (omega arith) l)
-      otherwiseKept (otherwise ss) c m k R h l = statementsKept ss c m k R h (l .1)
+      otherwiseKept missing c m k R w h l = (tt, tt, moved c R (omega arith) l)
+      otherwiseKept (otherwise ss) c m k R w h l = statementsKept ss c m k R w h (l .1)
 
   -- what may be missing, and lists of names
 
@@ -159,14 +169,16 @@ module _ (z : State) (ns : List Name) where
   closingKept o (some n) y R l = l .1
 
   commaKept : (ms : List Name) (ls : List Name) (q : ℕ) (e c : List ℕ) (m : ℕ) (R : List Role)
-      → Leads z (within ls q e c m) (commaRoles listens ms R) → AllBelow (length ns) (numbers ns ms) × Leads z (within ls q e c m) R
+      → Leads z (within ls q e c m) (commaRoles listens ms R) → Listed (length ns) (numbers ns ms) × Leads z (within ls q e c m) R
+  unfolding Listed
   commaKept [] ls q e c m R l = (tt, l)
   commaKept (n ∷ ms) ls q e c m R l =
       let a = commaKept ms ls q e c m R (l .1 .1) in
       ((declared-below n ns (l .1 .0 .0), a .0), a .1)
 
   sensitivityKept : (s : Sensitivity) (ls : List Name) (q : ℕ) (e c : List ℕ) (m : ℕ) (R : List Role)
-      → Leads z (within ls q e c m) (sensitivityRoles s R) → AllBelow (length ns) (numbers ns (listNames s)) × Leads z (within ls q e c m) R
+      → Leads z (within ls q e c m) (sensitivityRoles s R) → Listed (length ns) (numbers ns (listNames s)) × Leads z (within ls q e c m) R
+  unfolding Listed
   sensitivityKept unlisted ls q e c m R l = (tt, l)
   sensitivityKept (listed n ms) ls q e c m R l =
       let a = commaKept ms ls q e c m (passes ∷ R) (l .1 .1) in
@@ -178,15 +190,22 @@ module _ (z : State) (ns : List Name) where
   labelKept (some n) ls q e c m R l = (n ∷ ls, l .1 .1)
 
 -- a list with each number once has no other numbers
-below-without : (n k : ℕ) (js : List ℕ) → AllBelow n js → AllBelow n (without k js)
+below-without : (n k : ℕ) (js : List ℕ) → Listed n js → Listed n (without k js)
+unfolding Listed
 below-without n k [] a = tt
 below-without n k (j ∷ js) a =
     let r = below-without n k js (a .1) in
-    pick-both (AllBelow n) (eqb j k) (without k js) (j ∷ without k js) (λ _. r) (λ _. (a .0, r))
+    pick-both (Listed n) (eqb j k) (without k js) (j ∷ without k js) (λ _. r) (λ _. (a .0, r))
 
-below-distinct : (n : ℕ) (ks : List ℕ) → AllBelow n ks → AllBelow n (distinct ks)
+below-distinct : (n : ℕ) (ks : List ℕ) → Listed n ks → Listed n (distinct ks)
+unfolding Listed
 below-distinct n [] a = tt
 below-distinct n (k ∷ ks) a = (a .0, below-without n k (distinct ks) (below-distinct n ks (a .1)))
+
+-- each process keeps the sizes
+abbrev pub AllKeep : ℕ → List Activity → Type 0
+AllKeep n [] = Unit {0}
+AllKeep n (p ∷ ps) = Listed n (p .wakes) × Keeps n (p .body) × AllKeep n ps
 
 -- each process assigns none of the signals in e, nor one that an earlier process assigns
 abbrev pub ApartFrom : List ℕ → List Activity → Type 0
@@ -197,26 +216,27 @@ ApartFrom e (p ∷ ps) = Free e (p .body) × ApartFrom (collect (p .body) [] ++ 
 pub record Arrived (z : State) (ns : List Name) (q k : ℕ) (R : List Role) : Type 0 where
   pub state : State
   pub names : state .signalNames ≡ ns
-  pub processes : state .processes ≡ q
-  pub instructions : state .instructions ≡ k
+  pub opened : state .processes ≡ q
+  pub counted : state .instructions ≡ k
   pub leads : Leads z state R
 
 module _ (z : State) (ns : List Name) where
-  pub processesKept : (ps : List Process) (ls : List Name) (q r : ℕ) (e c : List ℕ) (m k : ℕ) (R : List Role)
-      → q + length ps ≡ r → m + processesInstructions (activitiesOf ns ps) ≡ k → Leads z (within z ns ls q e c m) (processesRoles ps R)
-      → ProcessesSized (length ns) (activitiesOf ns ps) × ApartFrom (c ++ e) (activitiesOf ns ps) × Arrived z ns r k R
-  processesKept [] ls q r e c m k R g h l =
-      (tt, tt, record { state = within z ns ls q e c m; names = refl; processes = omega arith; instructions = omega arith; leads = l })
-  processesKept (process o s i b o′ ∷ ps) ls q r e c m k R g h l =
+  pub processesKept : (ps : List Process) (ls : List Name) (q r : ℕ) (e c : List ℕ) (m k : ℕ) (R : List Role) → processesNest ps ≤ mostOpen
+      → q + length ps ≡ r → m + total (activitiesOf ns ps) ≡ k → Leads z (within z ns ls q e c m) (processesRoles ps R)
+      → AllKeep (length ns) (activitiesOf ns ps) × ApartFrom (c ++ e) (activitiesOf ns ps) × Arrived z ns r k R
+  unfolding total
+  processesKept [] ls q r e c m k R n g h l =
+      (tt, tt, record { state = within z ns ls q e c m; names = refl; opened = omega arith; counted = omega arith; leads = l })
+  processesKept (process o s i b o′ ∷ ps) ls q r e c m k R n g h l =
       let body = statementsActions b ns in
-      let m′ = m + actionsInstructions body in
+      let m′ = m + instructions body in
       let after′ = passes ∷ passes ∷ closingRoles o o′ (passes ∷ processesRoles ps R) in
       let a = labelKept z ns o ls q e c m (opens ∷ sensitivityRoles s (wordRoles i (passes ∷ statementsRoles b after′))) l in
       let w = sensitivityKept z ns s (a .0) (q + 1) (c ++ e) [] m (wordRoles i (passes ∷ statementsRoles b after′)) (a .1 .1) in
       let t = wordKept z ns i (within z ns (a .0) (q + 1) (c ++ e) [] m) (passes ∷ statementsRoles b after′) (w .1) in
-      let v = statementsKept z ns (a .0) (q + 1) (c ++ e) b [] m m′ after′ refl (t .1) in
+      let v = statementsKept z ns (a .0) (q + 1) (c ++ e) b [] m m′ after′ (omega arith) refl (t .1) in
       let u = closingKept z ns o o′ (within z ns (a .0) (q + 1) (c ++ e) (collect body []) m′) (passes ∷ processesRoles ps R) (v .2 .1 .1) in
-      let f = processesKept ps (a .0) (q + 1) r (c ++ e) (collect body []) m′ k R (omega arith) (omega arith) (u .1) in
+      let f = processesKept ps (a .0) (q + 1) r (c ++ e) (collect body []) m′ k R (omega arith) (omega arith) (omega arith) (u .1) in
       ((below-distinct (length ns) (numbers ns (listNames s)) (w .0), v .0, f .0), (v .1, f .1), f .2)
 
 -- the signals s are declared so far
@@ -244,19 +264,14 @@ module _ (z : State) where
 
 -- WHAT THE NUMBERS OF ASSIGNED SIGNALS SAY
 
-or-both : (a b : Bool) → a ≡ false → b ≡ false → (a || b) ≡ false
-or-both a b p q = rw (p, q)
-
-differ : {b : Bool} → b ≡ true → b ≡ false → ⊥
-differ e f = let z : _≡_ {A = ℕ} 0 1 = cc in omega arith
-
 pub has-append : (k : ℕ) (c e : List ℕ) → has k (c ++ e) ≡ (has k c || has k e)
 has-append k [] e = refl
 has-append k (j ∷ c) e = rw (has-append k c e) (sym (or-assoc (eqb j k) (has k c) (has k e)))
 
-pub has-collect : (r : Actions) (k : ℕ) (c : List ℕ) → has k (collect r c) ≡ (Sized.assigns r k || has k c)
+pub has-collect : (r : Actions) (k : ℕ) (c : List ℕ) → has k (collect r c) ≡ (Statements.assigns r k || has k c)
+unfolding Statements.assigns
 has-collect Actions.done k c = refl
-has-collect (Actions.assign j f d r) k c = has-collect r k (j ∷ c) ∙ turn (Sized.assigns r k) (eqb j k) (has k c)
+has-collect (Actions.assign j f d r) k c = has-collect r k (j ∷ c) ∙ turn (Statements.assigns r k) (eqb j k) (has k c)
   where
     turn : (a b d : Bool) → (a || (b || d)) ≡ ((b || a) || d)
     turn true true d = refl
@@ -265,7 +280,7 @@ has-collect (Actions.assign j f d r) k c = has-collect r k (j ∷ c) ∙ turn (S
     turn false false d = refl
 has-collect (Actions.branch f a b r) k c =
     rw (has-collect r k (collect b (collect a c)), has-collect b k (collect a c), has-collect a k c)
-    (turn (Sized.assigns r k) (Sized.assigns b k) (Sized.assigns a k) (has k c))
+    (turn (Statements.assigns r k) (Statements.assigns b k) (Statements.assigns a k) (has k c))
   where
     turn : (x y w d : Bool) → (x || (y || (w || d))) ≡ ((w || (y || x)) || d)
     turn true true true d = refl

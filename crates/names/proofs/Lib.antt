@@ -1,6 +1,6 @@
 -- What callers may lean on: a design's roles are its tokens', what the fold decides, and the sizes of an accepted design's circuit.
 pub mod Tokens
 pub mod Verdict
-pub mod Kept
 pub mod Operands
+pub mod Kept
 pub mod Sizes

@@ -7,20 +7,20 @@ use mathlib.Core.Bool.{Bool, true, false, _||_, or-true}
 use mathlib.Core.Option.{Option, none, some}
 use mathlib.Core.List.{List, [], _∷_, _++_}
 use lib.Dec.{eqb}
-use lib.ListN.{length, length-append}
+use lib.ListN.{length, getD, length-append}
 use borrow.Author.Tests.{ltb-false, eqb-true}
 use Rattle.words.specs.Token.{Name}
 use Rattle.syntax.specs.Tree.{Declaration, Process, Design, declaration, design}
 use Rattle.syntax.specs.Circuit.{Actions, Activity, Circuit}
 use Rattle.syntax.specs.Sentence.{nest, mostOpen}
+use Rattle.rules.specs.Sizes.{mostSignals, mostProcesses, mostInstructions}
+use Rattle.rules.specs.Statements
+use Rattle.rules.specs.Sized.{total, Keeps, Listed, idle, Sized}
 use Rattle.names.specs.Roles.{Role, declares, labels, listens, reads, assigns, belongs, closes, opens, delays, counts, passes, designRoles, declarationsRoles, processesRoles, wordRoles, closingRoles}
-use Rattle.names.specs.Judge.{State, has, faults, next, start, mostSignals, mostProcesses, mostInstructions, Fits}
+use Rattle.names.specs.Judge.{State, has, faults, next, start, Fits}
 use Rattle.names.specs.CircuitOf.{activitiesOf, declaredNames, declaredValues, eachValue, startingValue, circuitOf, signalNames}
-use Rattle.names.specs.Sized.{processesInstructions, ProcessesSized, anyAssigns, Apart, ProcessesNarrow, Sized}
-use Rattle.names.specs.Sized as sizes
 use Rattle.names.proofs.Verdict.{Clear, Fine, afterAll, none-fine}
-use Rattle.names.proofs.Kept.{Leads, Free, collect, ApartFrom, Arrived, processesKept, declarationsKept, wordKept, closingKept, declaring, has-append, has-collect}
-use Rattle.names.proofs.Operands.{processesNarrow}
+use Rattle.names.proofs.Kept.{Leads, Free, collect, AllKeep, ApartFrom, Arrived, processesKept, declarationsKept, wordKept, closingKept, declaring, has-append, has-collect}
 
 -- APART
 
@@ -36,44 +36,60 @@ either : (a b : Bool) → (a || b) ≡ true → Either a b
 either true b e = left refl
 either false b e = right e
 
-free-not : (r : Actions) (e : List ℕ) (k : ℕ) → Free e r → sizes.assigns r k ≡ true → has k e ≡ false
+free-not : (r : Actions) (e : List ℕ) (k : ℕ) → Free e r → Statements.assigns r k ≡ true → has k e ≡ false
+unfolding Statements.assigns
 free-not Actions.done e k f h = absurd (differ h refl)
-free-not (Actions.assign j x d r) e k f h = go (either (eqb j k) (sizes.assigns r k) h) (free-not r e k (f .1))
+free-not (Actions.assign j x d r) e k f h = go (either (eqb j k) (Statements.assigns r k) h) (free-not r e k (f .1))
   where
-    go : Either (eqb j k) (sizes.assigns r k) → (sizes.assigns r k ≡ true → has k e ≡ false) → has k e ≡ false
+    go : Either (eqb j k) (Statements.assigns r k) → (Statements.assigns r k ≡ true → has k e ≡ false) → has k e ≡ false
     go (left p) g = rw (eqb-true j k p) at (f .0)
     go (right p) g = g p
 free-not (Actions.branch x a b r) e k f h =
-    go (either (sizes.assigns a k) (sizes.assigns b k || sizes.assigns r k) h) (free-not a e k (f .0)) (free-not b e k (f .1)) (free-not r e k (f .2))
+    go (either (Statements.assigns a k) (Statements.assigns b k || Statements.assigns r k) h) (free-not a e k (f .0)) (free-not b e k (f .1)) (free-not r e k (f .2))
   where
-    then′ : Either (sizes.assigns b k) (sizes.assigns r k) → (sizes.assigns b k ≡ true → has k e ≡ false)
-        → (sizes.assigns r k ≡ true → has k e ≡ false) → has k e ≡ false
+    then′ : Either (Statements.assigns b k) (Statements.assigns r k) → (Statements.assigns b k ≡ true → has k e ≡ false)
+        → (Statements.assigns r k ≡ true → has k e ≡ false) → has k e ≡ false
     then′ (left p) g i = g p
     then′ (right p) g i = i p
 
-    go : Either (sizes.assigns a k) (sizes.assigns b k || sizes.assigns r k) → (sizes.assigns a k ≡ true → has k e ≡ false)
-        → (sizes.assigns b k ≡ true → has k e ≡ false) → (sizes.assigns r k ≡ true → has k e ≡ false) → has k e ≡ false
+    go : Either (Statements.assigns a k) (Statements.assigns b k || Statements.assigns r k) → (Statements.assigns a k ≡ true → has k e ≡ false)
+        → (Statements.assigns b k ≡ true → has k e ≡ false) → (Statements.assigns r k ≡ true → has k e ≡ false) → has k e ≡ false
     go (left p) f g i = f p
-    go (right p) f g i = then′ (either (sizes.assigns b k) (sizes.assigns r k) p) g i
+    go (right p) f g i = then′ (either (Statements.assigns b k) (Statements.assigns r k) p) g i
 free-not (Actions.null r) e k f h = free-not r e k f h
 
-apart-later : (ps : List Activity) (e : List ℕ) (k : ℕ) → ApartFrom e ps → has k e ≡ true → anyAssigns ps k ≡ false
-apart-later [] e k a h = refl
-apart-later (p ∷ ps) e k a h =
-    go (sizes.assigns (p .body) k) refl
-    (apart-later ps (collect (p .body) [] ++ e) k (a .1) (rw (has-append k (collect (p .body) []) e, h) (or-true (has k (collect (p .body) [])))))
-  where
-    go : (b : Bool) → sizes.assigns (p .body) k ≡ b → anyAssigns ps k ≡ false → (b || anyAssigns ps k) ≡ false
-    go true q g = absurd (differ h (free-not (p .body) e k (a .0) q))
-    go false q g = g
+has-before : (p : Activity) (e : List ℕ) (k : ℕ) → Statements.assigns (p .body) k ≡ true → has k (collect (p .body) [] ++ e) ≡ true
+has-before p e k h = rw (has-append k (collect (p .body) []) e, has-collect (p .body) k [], h)
 
-apart : (ps : List Activity) (e : List ℕ) → ApartFrom e ps → Apart ps
-apart [] e a = tt
-apart (p ∷ ps) e a = (
-  λ k h. apart-later ps (collect (p .body) [] ++ e) k (a .1)
-      (rw (has-append k (collect (p .body) []) e, has-collect (p .body) k [], h)),
-  apart ps (collect (p .body) [] ++ e) (a .1),
-)
+-- no process assigns a signal in e
+apart-later : (ps : List Activity) (e : List ℕ) (q k : ℕ) → ApartFrom e ps → has k e ≡ true → q < length ps
+    → ¬ (Statements.assigns (getD ps q idle .body) k ≡ true)
+apart-later [] e q k a h l g = omega arith
+apart-later (p ∷ ps) e zero k a h l g = differ h (free-not (p .body) e k (a .0) g)
+apart-later (p ∷ ps) e (suc q) k a h l g =
+    apart-later ps (collect (p .body) [] ++ e) q k (a .1)
+    (rw (has-append k (collect (p .body) []) e, h) (or-true (has k (collect (p .body) [])))) (omega arith) g
+
+alone : (ps : List Activity) (e : List ℕ) → ApartFrom e ps → (p q k : ℕ) → p < length ps → q < length ps
+    → Statements.assigns (getD ps p idle .body) k ≡ true → Statements.assigns (getD ps q idle .body) k ≡ true → p ≡ q
+alone [] e a p q k l m g h = absurd (omega arith)
+alone (x ∷ ps) e a zero zero k l m g h = refl
+alone (x ∷ ps) e a zero (suc q) k l m g h =
+    absurd (apart-later ps (collect (x .body) [] ++ e) q k (a .1) (has-before x e k g) (omega arith) h)
+alone (x ∷ ps) e a (suc p) zero k l m g h =
+    absurd (apart-later ps (collect (x .body) [] ++ e) p k (a .1) (has-before x e k h) (omega arith) g)
+alone (x ∷ ps) e a (suc p) (suc q) k l m g h =
+    ap suc (alone ps (collect (x .body) [] ++ e) (a .1) p q k (omega arith) (omega arith) g h)
+
+listed-at : (n : ℕ) (ps : List Activity) → AllKeep n ps → (p : ℕ) → p < length ps → Listed n (getD ps p idle .wakes)
+listed-at n [] a p l = absurd (omega arith)
+listed-at n (x ∷ ps) a zero l = a .0
+listed-at n (x ∷ ps) a (suc p) l = listed-at n ps (a .2) p (omega arith)
+
+keeps-at : (n : ℕ) (ps : List Activity) → AllKeep n ps → (p : ℕ) → p < length ps → Keeps n (getD ps p idle .body)
+keeps-at n [] a p l = absurd (omega arith)
+keeps-at n (x ∷ ps) a zero l = a .1
+keeps-at n (x ∷ ps) a (suc p) l = keeps-at n ps (a .2) p (omega arith)
 
 -- COUNTS
 
@@ -109,10 +125,10 @@ fine-leads (r ∷ rs) y f = (f .0, fine-leads rs (next y r) (f .1))
 -- what the state at the end of the tokens says of the circuit, and what the circuit keeps
 pub record Judged (d : Design) (z : State) : Type 0 where
   pub names : z .signalNames ≡ signalNames d
-  pub processes : z .processes ≡ length (circuitOf d .processes)
-  pub instructions : z .instructions ≡ processesInstructions (circuitOf d .processes)
-  pub parts : ProcessesSized (length (signalNames d)) (circuitOf d .processes)
-  pub apart : Apart (circuitOf d .processes)
+  pub opened : z .processes ≡ length (circuitOf d .processes)
+  pub counted : z .instructions ≡ total (circuitOf d .processes)
+  pub parts : AllKeep (length (signalNames d)) (circuitOf d .processes)
+  pub apart : ApartFrom [] (circuitOf d .processes)
 
 as-many-activities : (ns : List Name) (ps : List Process) → length (activitiesOf ns ps) ≡ length ps
 as-many-activities ns [] = refl
@@ -121,8 +137,8 @@ as-many-activities ns (p ∷ ps) = ap suc (as-many-activities ns ps)
 ended : (z y : State) (w : Bool) (o c : Option Name) → Leads z y (passes ∷ wordRoles w (closingRoles o c (passes ∷ []))) → y ≡ z
 ended z y w o c l = closingKept z [] o c y (passes ∷ []) (wordKept z [] w y (closingRoles o c (passes ∷ [])) (l .1)) .1
 
-leads-judged : (d : Design) (z : State) → Leads z start (designRoles d) → Judged d z
-leads-judged (design e w c a o ds ps w′ c′) z l =
+leads-judged : (d : Design) (z : State) → nest d ≤ mostOpen → Leads z start (designRoles d) → Judged d z
+leads-judged (design e w c a o ds ps w′ c′) z n l =
     let ns = declaredNames ds in
     let last = passes ∷ wordRoles w′ (closingRoles (some a) c′ (passes ∷ [])) in
     let main = passes ∷ processesRoles ps last in
@@ -130,22 +146,22 @@ leads-judged (design e w c a o ds ps w′ c′) z l =
     let l₁ = wordKept z [] w start (closingRoles (some e) c head) (l .1 .1 .1 .1) in
     let l₂ = closingKept z [] (some e) c start head l₁ in
     let l₃ = declarationsKept z ds [] main (l₂ .1 .1 .1 .1 .1 .1) in
-    let k = processesKept z ns ps [] 0 (length ps) [] [] 0 (processesInstructions (activitiesOf ns ps)) last (omega arith) (omega arith) (l₃ .1) in
+    let k = processesKept z ns ps [] 0 (length ps) [] [] 0 (total (activitiesOf ns ps)) last n (omega arith) (omega arith) (l₃ .1) in
     let q = ended z (k .2 .state) w′ (some a) c′ (k .2 .leads) in
     record {
       names = rw (← q) (k .2 .names);
-      processes = rw (← q, as-many-activities ns ps) (k .2 .processes);
-      instructions = rw (← q) (k .2 .instructions);
+      opened = rw (← q, as-many-activities ns ps) (k .2 .opened);
+      counted = rw (← q) (k .2 .counted);
       parts = k .0;
-      apart = apart (activitiesOf ns ps) [] (k .1);
+      apart = k .1;
     }
 
-pub fits-judged : (d : Design) → Fits d → Judged d (afterAll start (designRoles d))
-fits-judged d f = leads-judged d (afterAll start (designRoles d)) (fine-leads (designRoles d) start (none-fine (designRoles d) start f))
+pub fits-judged : (d : Design) → Fits d → nest d ≤ mostOpen → Judged d (afterAll start (designRoles d))
+fits-judged d f n = leads-judged d (afterAll start (designRoles d)) n (fine-leads (designRoles d) start (none-fine (designRoles d) start f))
 
 -- the fold counts the instructions of the circuit
-pub counts-instructions : (d : Design) → Fits d → afterAll start (designRoles d) .instructions ≡ processesInstructions (circuitOf d .processes)
-counts-instructions d f = fits-judged d f .instructions
+pub counts-instructions : (d : Design) → Fits d → nest d ≤ mostOpen → afterAll start (designRoles d) .instructions ≡ total (circuitOf d .processes)
+counts-instructions d f n = fits-judged d f n .counted
 
 -- a signal has a name and a starting value
 as-many-values : (b : Bool) (ns : List Name) → length (eachValue b ns) ≡ length ns
@@ -166,19 +182,17 @@ as-many-declared (declaration n ns i ∷ ds) =
 pub as-many-signals : (d : Design) → length (circuitOf d .initial) ≡ length (signalNames d)
 as-many-signals (design e w c a o ds ps w′ c′) = as-many-declared ds
 
-narrow : (d : Design) → nest d ≤ mostOpen → ProcessesNarrow (circuitOf d .processes)
-narrow (design e w c a o ds ps w′ c′) h = processesNarrow (declaredNames ds) ps h
-
+-- the circuit of an accepted design keeps the sizes
 pub sized : (d : Design) → Fits d → nest d ≤ mostOpen → Sized (circuitOf d)
-sized d f h =
-    let z = afterAll start (designRoles d) in
-    let j = fits-judged d f in
+sized d f n =
+    let j = fits-judged d f n in
     let b = bounded (designRoles d) start (none-fine (designRoles d) start f) (record { signals = omega arith; processes = omega arith; instructions = omega arith }) in
+    let parts = rw (← (as-many-signals d)) at (j .parts) in
     record {
-      signals = rw (as-many-signals d, ← (j .names)) (b .signals);
-      count = rw (← (j .processes)) (b .processes);
-      instructions = rw (← (j .instructions)) (b .instructions);
-      parts = rw (as-many-signals d) (j .parts);
-      operands = narrow d h;
-      apart = j .apart;
+      fewSignals = rw (as-many-signals d, ← (j .names)) (b .signals);
+      fewProcesses = rw (← (j .opened)) (b .processes);
+      fewInstructions = rw (← (j .counted)) (b .instructions);
+      listed = listed-at (length (circuitOf d .initial)) (circuitOf d .processes) parts;
+      keeps = keeps-at (length (circuitOf d .initial)) (circuitOf d .processes) parts;
+      alone = alone (circuitOf d .processes) [] (j .apart);
     }

@@ -12,18 +12,8 @@ use Rattle.laws.specs.Pick.{pick, sameList}
 use Rattle.words.specs.Token.{Name}
 use Rattle.words.specs.Unit.{femtosecondsOf, longest}
 use Rattle.syntax.specs.Tree.{Design}
+use Rattle.rules.specs.Sizes.{mostSignals, mostProcesses, mostInstructions}
 use Rattle.names.specs.Roles.{Role, declares, labels, listens, reads, assigns, belongs, closes, opens, delays, counts, passes, designRoles}
-
--- SIZES (the longest delay stands with the units)
-
-abbrev pub mostSignals : ℕ
-mostSignals = 64
-
-abbrev pub mostProcesses : ℕ
-mostProcesses = 64
-
-abbrev pub mostInstructions : ℕ
-mostInstructions = 4096
 
 -- TESTS
 

@@ -2,5 +2,4 @@
 pub mod Roles
 pub mod Judge
 pub mod CircuitOf
-pub mod Sized
 pub mod Examples
