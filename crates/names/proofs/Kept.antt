@@ -1,13 +1,13 @@
 -- A design whose tokens are all fine: what its circuit keeps, construct by construct, and how the state of the fold moves over it.
 -- Assumes nothing.
-use Prim.Native.Nat.{ℕ, zero, suc, _+_, _≤_, _<_}
+use Prim.Native.Nat.{ℕ, suc, _+_, _≤_, _<_}
 use native.Mathlib.Omega.{arith}
-use mathlib.Core.Path.{_≡_, refl, sym, ap, _∙_}
+use mathlib.Core.Path.{_≡_, refl, sym, _∙_}
 use mathlib.Core.Bool.{Bool, true, false, not, _||_, or-assoc}
 use mathlib.Core.Option.{Option, none, some}
 use mathlib.Core.List.{List, [], _∷_, _++_, append-nil, append-assoc}
 use lib.Dec.{eqb}
-use lib.ListN.{length, length-append}
+use lib.ListN.{length}
 use borrow.Author.Tests.{ltb-false, not-false}
 use Rattle.laws.specs.Pick.{pick, sameList}
 use Rattle.laws.proofs.Picks.{pick-both}
@@ -15,15 +15,15 @@ use Rattle.words.specs.Token.{Name, Chain}
 use Rattle.words.specs.Unit.{longest}
 use Rattle.syntax.specs.Tree.{Expression, Tail, More, Factor, Primary, expression, alone, joined, chained, enough, more, plain, negated, named, constant, bracketed}
 use Rattle.syntax.specs.Tree.{Delay, Statements, Statement, Otherwise, immediate, after, done, also, assignment, conditional, null, missing, otherwise}
-use Rattle.syntax.specs.Tree.{Declaration, Sensitivity, Process, Design, declaration, unlisted, listed, process, design}
-use Rattle.syntax.specs.Circuit.{Operator, Formula, Actions, Activity, Circuit}
-use Rattle.syntax.specs.Sentence.{mostOpen, expressionNest, statementsNest, statementNest, otherwiseNest, processesNest}
+use Rattle.syntax.specs.Tree.{Declaration, Sensitivity, Process, declaration, unlisted, listed, process}
+use Rattle.syntax.specs.Circuit.{Formula, Actions, Activity}
+use Rattle.syntax.specs.Sentence.{mostOpen, statementsNest, statementNest, otherwiseNest, processesNest}
 use Rattle.rules.specs.Formulas.{size}
 use Rattle.rules.specs.Statements
-use Rattle.rules.specs.Sized.{instructions, total, Known, Keeps, Listed, operands}
-use Rattle.names.specs.Roles.{Role, declares, labels, listens, reads, assigns, belongs, closes, opens, delays, counts, passes, expressionRoles, tailRoles, moreRoles, factorRoles, primaryRoles, delayRoles, statementsRoles, statementRoles, otherwiseRoles, wordRoles, closingRoles, labelRoles, commaRoles, initialRoles, declarationRoles, sensitivityRoles, processRoles, declarationsRoles, processesRoles, designRoles}
-use Rattle.names.specs.Judge.{State, isAmong, numberOf, has, faults, next, start}
-use Rattle.names.specs.CircuitOf.{onceOperator, chainOperator, expressionFormula, tailFormula, moreFormula, factorFormula, primaryFormula, delayFemtoseconds, statementsActions, statementActions, otherwiseActions, without, distinct, listNames, numbers, activityOf, activitiesOf, declaredNames, declaredValues, eachValue, startingValue}
+use Rattle.rules.specs.Sized.{instructions, total, Known, Keeps, Listed}
+use Rattle.names.specs.Roles.{Role, declares, listens, assigns, opens, passes, expressionRoles, tailRoles, moreRoles, factorRoles, primaryRoles, delayRoles, statementsRoles, statementRoles, otherwiseRoles, wordRoles, closingRoles, labelRoles, commaRoles, initialRoles, sensitivityRoles, declarationsRoles, processesRoles}
+use Rattle.names.specs.Judge.{State, isAmong, numberOf, has, faults, next}
+use Rattle.names.specs.CircuitOf.{chainOperator, expressionFormula, tailFormula, moreFormula, factorFormula, primaryFormula, delayFemtoseconds, statementsActions, statementActions, otherwiseActions, without, distinct, listNames, numbers, activitiesOf, declaredNames}
 use Rattle.names.proofs.Verdict.{Clear}
 use Rattle.names.proofs.Operands.{expressionOperands}
 

@@ -4,3 +4,5 @@ pub mod Verdict
 pub mod Operands
 pub mod Kept
 pub mod Sizes
+pub mod Answer
+pub mod Texts

@@ -1,6 +1,6 @@
 -- An expression with brackets d deep has at most d + 2 operands at once: 34 at 32.
 -- Assumes nothing.
-use Prim.Native.Nat.{ℕ, suc, _+_, _≤_, max}
+use Prim.Native.Nat.{_+_, _≤_, max}
 use native.Mathlib.Omega.{arith}
 use mathlib.Core.List.{List}
 use Rattle.words.specs.Token.{Name, Chain}

@@ -4,14 +4,14 @@ use Prim.Native.Nat.{ℕ, zero, suc, _+_, _≤_, _<_}
 use native.Mathlib.Omega.{arith}
 use mathlib.Core.Path.{_≡_, refl, sym, ap, _∙_}
 use mathlib.Core.Bool.{Bool, true, false, _||_, or-true}
-use mathlib.Core.Option.{Option, none, some}
+use mathlib.Core.Option.{Option, some}
 use mathlib.Core.List.{List, [], _∷_, _++_}
 use lib.Dec.{eqb}
 use lib.ListN.{length, getD, length-append}
 use borrow.Author.Tests.{ltb-false, eqb-true}
 use Rattle.words.specs.Token.{Name}
 use Rattle.syntax.specs.Tree.{Declaration, Process, Design, declaration, design}
-use Rattle.syntax.specs.Circuit.{Actions, Activity, Circuit}
+use Rattle.syntax.specs.Circuit.{Actions, Activity}
 use Rattle.syntax.specs.Sentence.{nest, mostOpen}
 use Rattle.rules.specs.Sizes.{mostSignals, mostProcesses, mostInstructions}
 use Rattle.rules.specs.Statements
@@ -20,7 +20,7 @@ use Rattle.names.specs.Roles.{Role, declares, labels, listens, reads, as
 use Rattle.names.specs.Judge.{State, has, faults, next, start, Fits}
 use Rattle.names.specs.CircuitOf.{activitiesOf, declaredNames, declaredValues, eachValue, startingValue, circuitOf, signalNames}
 use Rattle.names.proofs.Verdict.{Clear, Fine, afterAll, none-fine}
-use Rattle.names.proofs.Kept.{Leads, Free, collect, AllKeep, ApartFrom, Arrived, processesKept, declarationsKept, wordKept, closingKept, declaring, has-append, has-collect}
+use Rattle.names.proofs.Kept.{Leads, Free, collect, AllKeep, ApartFrom, processesKept, declarationsKept, wordKept, closingKept, has-append, has-collect}
 
 -- APART
 

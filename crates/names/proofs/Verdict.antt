@@ -1,10 +1,10 @@
 -- What the fold decides: it refuses with n at a token exactly where n applies there, no lower number does, and no number applies before;
 -- and it accepts exactly where no number applies. Assumes nothing.
-use Prim.Native.Nat.{ℕ, zero, suc, _+_, _≤_, _<_}
+use Prim.Native.Nat.{ℕ, zero, suc, _≤_, _<_}
 use native.Mathlib.Omega.{arith}
-use mathlib.Core.Path.{_≡_, refl, sym, ap, _∙_}
+use mathlib.Core.Path.{_≡_, refl}
 use mathlib.Core.Bool.{Bool, true, false}
-use mathlib.Core.Logic.{_⊎_, inl, inr}
+use mathlib.Core.Logic.{inl, inr}
 use mathlib.Core.List.{List, [], _∷_}
 use lib.ListN.{length, getD}
 use Rattle.laws.specs.Pick.{pick}
@@ -87,22 +87,50 @@ one-token (row ∷ rows) p y r = go (row .1) refl (one-token rows p y (r .1))
         below m l (inr g) = omega (arith, above rows (row .0) m (r .0) g)
     go false e o = later e o
 
+-- every number is one of 5 to 10
+abbrev Ranged : List (ℕ × Bool) → Type 0
+Ranged [] = Unit {0}
+Ranged (row ∷ rows) = (5 ≤ row .0) × (row .0 ≤ 10) × Ranged rows
+
+ranged : (y : State) (r : Role) → Ranged (faults y r)
+ranged y (declares n) = omega arith
+ranged y (labels n) = omega arith
+ranged y (listens n) = omega arith
+ranged y (reads n) = omega arith
+ranged y (assigns n) = omega arith
+ranged y (belongs e n) = omega arith
+ranged y (closes o n) = omega arith
+ranged y opens = omega arith
+ranged y (delays n u) = omega arith
+ranged y (counts k) = omega arith
+ranged y passes = omega arith
+
+in-range : (rows : List (ℕ × Bool)) (n : ℕ) → Ranged rows → Holds n rows → (5 ≤ n) × (n ≤ 10)
+in-range [] n a h = absurd h
+in-range (row ∷ rows) n a (inl e) = (omega (arith, e .0, a .0), omega (arith, e .0, a .1))
+in-range (row ∷ rows) n a (inr h) = in-range rows n (a .2) h
+
+pub five-to-ten : (rs : List Role) (y : State) (k n : ℕ) → AppliesFrom y rs k n → (5 ≤ n) × (n ≤ 10)
+five-to-ten [] y k n a = absurd a
+five-to-ten (r ∷ rs) y zero n a = in-range (faults y r) n (ranged y r) a
+five-to-ten (r ∷ rs) y (suc k) n a = five-to-ten rs (next y r) k n a
+
 -- ALL TOKENS
 
 pub data Decides (y : State) (rs : List Role) (ps : List ℕ) : Judgement → Type 0 where
-  accepts : Fine y rs → Decides y rs ps (fine (afterAll y rs))
-  refuses : (k : ℕ) {n : ℕ} → First (AppliesFrom y rs) k n → Decides y rs ps (refused n (getD ps k 0))
+  allFine : Fine y rs → Decides y rs ps (fine (afterAll y rs))
+  firstDue : (k : ℕ) {n : ℕ} → First (AppliesFrom y rs) k n → Decides y rs ps (refused n (getD ps k 0))
 
 pub decides : (rs : List Role) (y : State) (ps : List ℕ) → length rs ≤ length ps → Decides y rs ps (judged y rs ps)
 unfolding judged
-decides [] y ps l = accepts tt
+decides [] y ps l = allFine tt
 decides (r ∷ rs) y [] l = absurd (omega arith)
 decides (r ∷ rs) y (p ∷ ps) l = go (judge y r p) (one-token (faults y r) p (next y r) (rising y r)) (decides rs (next y r) ps (omega arith))
   where
     later : {j : Judgement} → Clear (faults y r) → Decides (next y r) rs ps j → Decides y (r ∷ rs) (p ∷ ps) j
-    later c (accepts f) = accepts (c, f)
-    later c (refuses k {n} f) =
-        refuses (suc k)
+    later c (allFine f) = allFine (c, f)
+    later c (firstDue k {n} f) =
+        firstDue (suc k)
         (record {
           applies = f .applies;
           lowerNot = f .lowerNot;
@@ -113,7 +141,7 @@ decides (r ∷ rs) y (p ∷ ps) l = go (judge y r p) (one-token (faults y r) p (
         → Decides y (r ∷ rs) (p ∷ ps) (onward j (λ z. judged z rs ps))
     go (fine z) (accepted c) d = later c d
     go (refused n q) (turned h f) d =
-        refuses 0 (record { applies = h; lowerNot = f; earlierNot = λ j m i. absurd (omega arith) })
+        firstDue 0 (record { applies = h; lowerNot = f; earlierNot = λ j m i. absurd (omega arith) })
 
 -- accepted is that no number applies
 pub fine-none : (rs : List Role) (y : State) → Fine y rs → (k n : ℕ) → ¬ AppliesFrom y rs k n

@@ -2,17 +2,17 @@
 -- An answer is its number and the number of its token; (0, 0) where the design is accepted. Assumes nothing.
 use Prim.Native.Nat.{ℕ, zero, suc, _+_}
 use mathlib.Core.Path.{_≡_, refl}
-use mathlib.Core.Bool.{Bool, true, false}
-use mathlib.Core.Option.{Option, none, some}
+use mathlib.Core.Bool.{true, false}
+use mathlib.Core.Option.{none, some}
 use mathlib.Core.List.{List, [], _∷_, _++_}
 use Rattle.laws.specs.Pick.{sameList}
 use Rattle.laws.specs.Text.{bytes}
 use Rattle.words.specs.declared.unit.TimeUnit.the-variants.{Fs, Ns, Sec, Hr}
-use Rattle.words.specs.Token.{Name, AND, NAND}
-use Rattle.syntax.specs.Tree.{Expression, More, Factor, expression, alone, joined, chained, enough, more, plain, negated, named, constant, bracketed}
-use Rattle.syntax.specs.Tree.{Delay, Statements, Statement, immediate, after, done, also, assignment, conditional, null, missing, otherwise}
+use Rattle.words.specs.Token.{Name, AND}
+use Rattle.syntax.specs.Tree.{Expression, More, Factor, expression, alone, chained, enough, more, plain, negated, named, constant}
+use Rattle.syntax.specs.Tree.{Delay, Statements, Statement, immediate, after, done, also, assignment, conditional, missing}
 use Rattle.syntax.specs.Tree.{Declaration, Process, Design, declaration, unlisted, listed, process, design}
-use Rattle.syntax.specs.Circuit.{Formula, Actions, Circuit}
+use Rattle.syntax.specs.Circuit.{Formula, Actions}
 use Rattle.names.specs.Roles.{Role, designRoles}
 use Rattle.names.specs.Judge.{Judgement, fine, refused, judged, judgedDesign}
 use Rattle.names.specs.CircuitOf.{circuitOf, entityName, signalNames}
