@@ -66,7 +66,7 @@ module _ (text : List ℕ) where
   place-inside d k n e a =
       let h = applies-inside (designRoles d) start k n a in
       let g = as-many-places d e in
-      getD-inside (starts text) k 0 (length text) (omega arith)
+      getD-inside (starts text) k 0 _ (omega arith)
 
   judging : (d : Design) → Written text d → Gets text (afterJudging d (judgedDesign d (starts text)))
   judging d w = go (judgedDesign d (starts text)) (decides (designRoles d) start (starts text) (omega (arith, as-many-places d (w .sentence))))
