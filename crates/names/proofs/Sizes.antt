@@ -19,13 +19,10 @@ use Rattle.rules.specs.Sized.{total, Keeps, Listed, idle, Sized}
 use Rattle.names.specs.Roles.{Role, declares, labels, listens, reads, assigns, belongs, closes, opens, delays, counts, passes, designRoles, declarationsRoles, processesRoles, wordRoles, closingRoles}
 use Rattle.names.specs.Judge.{State, has, faults, next, start, Fits}
 use Rattle.names.specs.CircuitOf.{activitiesOf, declaredNames, declaredValues, eachValue, startingValue, circuitOf, signalNames}
-use Rattle.names.proofs.Verdict.{Clear, Fine, afterAll, none-fine}
+use Rattle.names.proofs.Verdict.{Clear, Fine, afterAll, none-fine, differ}
 use Rattle.names.proofs.Kept.{Leads, Free, collect, AllKeep, ApartFrom, processesKept, declarationsKept, wordKept, closingKept, has-append, has-collect}
 
 -- APART
-
-differ : {b : Bool} → b ≡ true → b ≡ false → ⊥
-differ e f = let z : _≡_ {A = ℕ} 0 1 = cc in omega arith
 
 -- one of two tests
 data Either (a b : Bool) : Type 0 where

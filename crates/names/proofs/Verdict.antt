@@ -41,7 +41,7 @@ pub data OneToken (rows : List (ℕ × Bool)) (p : ℕ) (y : State) : Judgement 
   accepted : Clear rows → OneToken rows p y (fine y)
   turned : {n : ℕ} → Holds n rows → ((m : ℕ) → m < n → ¬ Holds m rows) → OneToken rows p y (refused n p)
 
-differ : {b : Bool} → b ≡ true → b ≡ false → ⊥
+pub differ : {b : Bool} → b ≡ true → b ≡ false → ⊥
 differ e f = let z : _≡_ {A = ℕ} 0 1 = cc in omega arith
 
 clear-none : (rows : List (ℕ × Bool)) → Clear rows → (n : ℕ) → ¬ Holds n rows
