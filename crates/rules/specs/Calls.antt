@@ -1,6 +1,6 @@
 -- Cycles, start and advance, over what each process means: one definition for statements and for tables. Assumes nothing: these are definitions.
 use Prim.Native.Nat.{ℕ, zero, suc, _+_}
-use mathlib.Core.Bool.{Bool, true, false}
+use mathlib.Core.Bool.{true}
 use mathlib.Core.List.{List, [], _∷_, _++_, map}
 use lib.Dec.{ltb}
 use lib.ListN.{length, replicate}
@@ -9,7 +9,7 @@ use Rattle.rules.specs.Sizes.{mostCycles}
 use Rattle.rules.specs.Outcome.{Outcome, refuses, gives, _then_}
 use Rattle.rules.specs.Formulas.{Values}
 use Rattle.rules.specs.Pending.{kept, valuesAt, due, Least, nothing, first, least}
-use Rattle.rules.specs.Runner.{Left, Runner, joined}
+use Rattle.rules.specs.Runner.{Runner, joined}
 use Rattle.rules.specs.Session.{Session, woken}
 use Rattle.rules.specs.Dump.{startBytes, advanceBytes}
 

@@ -2,18 +2,18 @@
 -- Assumes nothing: each is computed.
 use Prim.Native.Nat.{ℕ}
 use mathlib.Core.Path.{_≡_, refl}
-use mathlib.Core.Bool.{Bool, true, false}
+use mathlib.Core.Bool.{true, false}
 use mathlib.Core.List.{List, [], _∷_, _++_, map}
 use lib.ListN.{getD, replicate}
 use Rattle.laws.specs.Text.{bytes}
-use Rattle.syntax.specs.Circuit.{signal, constant, negated, Actions, done, assign, Activity, Circuit}
+use Rattle.syntax.specs.Circuit.{signal, negated, done, assign, Activity, Circuit}
 use Rattle.rules.specs.Formulas.{value, size}
 use Rattle.rules.specs.Pending.{change, before, post, taken, kept, valuesAt, dueIn, due, leastIn, least}
 use Rattle.rules.specs.Runner.{over, joined}
 use Rattle.rules.specs.Statements.{after, steps, assigns, member, means}
 use Rattle.rules.specs.Session.{Session, anyBelow, woken}
 use Rattle.rules.specs.Dump.{variables, header, digits, decimal, all, startBytes, changed, advanceBytes}
-use Rattle.rules.specs.Calls.{Moved, Answer, refused, quiet, stopReached, moved, cycle, cycles, started, start, advance, advances, calls, written}
+use Rattle.rules.specs.Calls.{refused, quiet, stopReached, moved, cycle, cycles, started, start, advance, advances, calls, written}
 
 -- case A: q is inverted every 3 ns, and d is not q
 unfoldable pub pair : Circuit

@@ -1,7 +1,7 @@
 -- A circuit that keeps the sizes, as every accepted text gives one. Assumes nothing: these are definitions.
 use Prim.Native.Nat.{ℕ, _+_, _≤_, _<_, max}
 use mathlib.Core.Path.{_≡_, refl}
-use mathlib.Core.Bool.{Bool, true, false}
+use mathlib.Core.Bool.{true}
 use mathlib.Core.List.{List, [], _∷_}
 use lib.ListN.{length, getD}
 use Rattle.syntax.specs.Circuit.{AND, Formula, signal, constant, negated, combined, Actions, done, assign, branch, null, Activity, Circuit}

@@ -10,7 +10,7 @@ use Rattle.syntax.specs.Circuit.{signal, constant, negated, Actions, done, assi
 use Rattle.rules.specs.Outcome.{Outcome, gives, _then_}
 use Rattle.rules.specs.Formulas.{Values, value, size}
 use Rattle.rules.specs.Pending.{Pending, change, before, post}
-use Rattle.rules.specs.Runner.{Left, Runner}
+use Rattle.rules.specs.Runner.{Runner}
 
 -- what the statements leave pending, run at the time now: ss_iv an assignment, ss_ii and ss_iii a conditional, ss_i one after another
 unfoldable pub after : Values → ℕ → Actions → Pending → Outcome Pending

@@ -1,11 +1,11 @@
 -- A signal's pending changes: what removing some of them, or adding one, keeps. Assumes nothing.
-use Prim.Native.Nat.{ℕ, zero, suc, _+_, _≤_, _<_, min}
+use Prim.Native.Nat.{ℕ, _≤_, _<_}
 use native.Mathlib.Omega.{arith}
 use mathlib.Core.Path.{_≡_, refl}
 use mathlib.Core.Bool.{Bool, true, false, _||_}
 use mathlib.Core.List.{List, [], _∷_, _++_}
 use lib.Dec.{ltb, eqb}
-use lib.ListN.{length, length-append}
+use lib.ListN.{length}
 use borrow.Author.Tests.{ltb-true, eqb-false}
 use Rattle.rules.specs.Pending.{Change, before, kept, dueIn}
 use Rattle.rules.specs.Session.{Each, Rising}

@@ -9,10 +9,9 @@ use Rattle.syntax.specs.Circuit.{Circuit}
 use Rattle.rules.specs.Sizes.{longest}
 use Rattle.rules.specs.Runner.{Runner}
 use Rattle.rules.specs.Statements.{means}
-use Rattle.rules.specs.Session.{Session, driven, FitSession}
-use Rattle.rules.specs.Calls.{Moved, Answer, refused, quiet, stopReached, moved, start, advance, leaves, advances, following, calls}
+use Rattle.rules.specs.Session.{Session, FitSession}
+use Rattle.rules.specs.Calls.{Answer, refused, quiet, stopReached, moved, start, advance, advances, following, calls}
 use Rattle.rules.specs.Sized.{Sized}
-use Rattle.table.proofs.Orderly.{AllObedient}
 use Rattle.table.proofs.Sessions.{AnswersFit, leaves-fit, start-fit, advance-fit}
 use Rattle.table.proofs.Written.{WritesFit, start-writes, advance-writes}
 use Rattle.table.specs.Table.{Table, runners}

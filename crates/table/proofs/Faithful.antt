@@ -1,23 +1,21 @@
 -- The table of a circuit means what its processes mean, one by one; so all that is built on what they mean is the same. Assumes nothing.
 use Prim.Native.Nat.{ℕ, zero, suc, _+_, _-_, _≤_, _<_}
 use native.Mathlib.Omega.{arith}
-use mathlib.Core.Path.{_≡_, refl, sym, _∙_, ap, ap₂}
-use mathlib.Core.Bool.{Bool, true, false, _||_, or-assoc, or-false}
+use mathlib.Core.Path.{_≡_, refl, sym, _∙_, ap}
+use mathlib.Core.Bool.{Bool, false, _||_, or-assoc, or-false}
 use mathlib.Core.Logic.{⊎-elim}
 use mathlib.Core.List.{List, [], _∷_, _++_, map}
-use lib.Dec.{eqb}
-use lib.ListN.{length, getD, take, drop, length-map, List·getD-eq-default}
-use lib.Seq.{take-at, drop-at, drop-drop, drop-append-add}
+use lib.ListN.{length, getD, take, drop, List·getD-eq-default}
+use lib.Seq.{take-at, drop-at, drop-drop}
 use borrow.Author.Tests.{ne-eqb}
 use Rattle.syntax.specs.Circuit.{Formula, signal, constant, negated, combined, Actions, done, assign, branch, null, Activity, Circuit}
-use Rattle.rules.specs.Runner.{Runner}
 use Rattle.rules.specs.Statements.{assigns, member, means}
 use Rattle.rules.specs.Sized.{instructions, total, Listed, idle, Sized}
 use Rattle.table.specs.Instructions.{Instruction, negation, binary}
-use Rattle.table.specs.Machine.{walk}
-use Rattle.table.specs.Table.{Table, bit, tabulate, begins, part, posts, runner, runners}
-use Rattle.table.specs.Translation.{formulaCode, code, endsFrom, codeFrom, word, listenersOf, translate}
-use Rattle.table.proofs.Tabulated.{side, length-tabulate, at-tabulate, map-tabulate, at-map, bit-zero, bit-word}
+use Rattle.table.specs.Table.{bit, tabulate, begins, part, posts, runner, runners}
+use Rattle.table.specs.Translation.{formulaCode, code, endsFrom, codeFrom, listenersOf, translate}
+use Rattle.table.proofs.Outcomes.{side}
+use Rattle.table.proofs.Tabulated.{length-tabulate, at-tabulate, map-tabulate, at-map, bit-zero, bit-word}
 use Rattle.table.proofs.Translating.{meaning, length-code}
 
 -- what follows the code of a formula or of statements is what follows it

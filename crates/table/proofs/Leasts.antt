@@ -1,17 +1,16 @@
 -- The least pending time: none is earlier, and something is pending there. Assumes nothing.
 use Prim.Native.Nat.{ℕ, zero, suc, _≤_, _<_, min}
 use native.Mathlib.Omega.{arith}
-use mathlib.Core.Path.{_≡_, refl, sym, _∙_, subst}
-use mathlib.Core.Bool.{Bool, true, false, _||_, or-true, true≢false}
-use mathlib.Core.Logic.{_⊎_, inl, inr, ⊎-elim, ⊎-map}
+use mathlib.Core.Path.{_≡_, refl, sym, subst}
+use mathlib.Core.Bool.{true, or-true, true≢false}
+use mathlib.Core.Logic.{_⊎_, inl, inr, ⊎-elim}
 use mathlib.Core.List.{List, [], _∷_}
 use lib.Dec.{eqb}
 use lib.ListN.{getD}
 use borrow.Author.Tests.{eq-eqb, eqb-true}
 use Rattle.rules.specs.Pending.{Change, Pending, dueIn, due, Least, nothing, first, lower, leastIn, least}
 use Rattle.rules.specs.Session.{Each}
-use Rattle.table.proofs.Outcomes.{split}
-use Rattle.table.proofs.Orderly.{below}
+use Rattle.table.proofs.Outcomes.{split, side}
 
 -- none is earlier
 abbrev Above : ℕ → Least → Type 0
@@ -44,7 +43,7 @@ lower-from : (a t : ℕ) (l : Least) → lower a l ≡ first t → (a ≡ t) ⊎
 lower-from a t nothing h = inl (cc)
 lower-from a t (first u) h =
     let e : min a u ≡ t = cc in
-    ⊎-elim (λ g. inl (omega arith)) (λ g. inr (let z : u ≡ t = omega arith in rw z)) (below a u)
+    ⊎-elim (λ g. inl (omega arith)) (λ g. inr (let z : u ≡ t = omega arith in rw z)) (side a u)
 
 least-in : (t : ℕ) (cs : List Change) (l : Least) → leastIn cs l ≡ first t → (dueIn t cs ≡ true) ⊎ (l ≡ first t)
 unfolding leastIn dueIn

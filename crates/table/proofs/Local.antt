@@ -2,8 +2,8 @@
 -- set of pending changes gives what joining their posts per driver gives. Assumes nothing.
 use Prim.Native.Nat.{ℕ, zero, suc, _+_, _≤_, _<_}
 use native.Mathlib.Omega.{arith}
-use mathlib.Core.Path.{_≡_, refl, sym, _∙_}
-use mathlib.Core.Bool.{Bool, true, false, _||_, or-true}
+use mathlib.Core.Path.{_≡_, refl, _∙_}
+use mathlib.Core.Bool.{Bool, true, false, or-true}
 use mathlib.Core.List.{List, [], _∷_}
 use lib.Dec.{eqb}
 use lib.ListN.{length}
@@ -11,7 +11,7 @@ use borrow.Author.Tests.{eq-eqb}
 use Rattle.rules.specs.Outcome.{Outcome, refuses, gives, _then_}
 use Rattle.rules.specs.Formulas.{Values}
 use Rattle.rules.specs.Pending.{Pending, change, post}
-use Rattle.rules.specs.Runner.{Left, Runner, over, joined}
+use Rattle.rules.specs.Runner.{Runner, over, joined}
 use Rattle.table.proofs.Outcomes.{split, Gives}
 use Rattle.table.proofs.Overlays.{over-post, length-post}
 use Rattle.table.proofs.Threads.{threaded, laid, Local, Apart, Single, threaded-joined}

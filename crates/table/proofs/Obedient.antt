@@ -1,23 +1,23 @@
 -- The processes of a fit table keep pending changes in order, so that the session after each call is fit again. Assumes nothing.
 use Prim.Native.Nat.{ℕ, zero, suc, _+_, _≤_, _<_}
 use native.Mathlib.Omega.{arith}
-use mathlib.Core.Path.{_≡_, refl, sym, _∙_, subst}
-use mathlib.Core.Bool.{Bool, true, false, _||_, or-true}
-use mathlib.Core.Logic.{_⊎_, inl, inr, ⊎-elim}
+use mathlib.Core.Path.{_≡_, refl, subst}
+use mathlib.Core.Bool.{Bool, true, or-true}
+use mathlib.Core.Logic.{⊎-elim}
 use mathlib.Core.List.{List, [], _∷_}
 use lib.Dec.{eqb}
-use lib.ListN.{length, getD}
+use lib.ListN.{length}
 use borrow.Author.Tests.{eq-eqb}
 use Rattle.rules.specs.Sizes.{longest}
 use Rattle.rules.specs.Outcome.{Outcome, refuses, gives, _then_}
 use Rattle.rules.specs.Formulas.{Values}
 use Rattle.rules.specs.Pending.{Pending, change, post}
-use Rattle.rules.specs.Runner.{Left, Runner}
+use Rattle.rules.specs.Runner.{Runner}
 use Rattle.rules.specs.Session.{driven}
-use Rattle.table.proofs.Outcomes.{Gives, gives-then}
+use Rattle.table.proofs.Outcomes.{side, Gives, gives-then}
 use Rattle.table.proofs.Orderly.{Orderly, InOrder, Obedient, AllObedient, orderly-post}
 use Rattle.table.specs.Instructions.{Instruction, name, literal, negation, binary, assignment, test, skip}
-use Rattle.table.specs.Machine.{top, pop, Next, next, does, walk}
+use Rattle.table.specs.Machine.{top, pop, next, does, walk}
 use Rattle.table.specs.Table.{Table, tabulate, begins, part, posts, runner, runners}
 use Rattle.table.specs.Fit.{at, Exists, FitTable}
 use Rattle.table.proofs.Fitting.{AllExist}
@@ -64,14 +64,9 @@ unfolding tabulate driven
 driven-by f i zero p k lo hi h = absurd (omega arith)
 driven-by f i (suc n) p k lo hi h =
     ⊎-elim
-    (λ e. rw (subst (λ j. (f j .drives) k ≡ true) e h) refl)
     (λ l. rw (driven-by f (suc i) n p k l (omega arith) h) (or-true ((f i .drives) k)))
-    (first-or-later i p lo)
-  where
-    first-or-later : (i p : ℕ) → i ≤ p → (p ≡ i) ⊎ (suc i ≤ p)
-    first-or-later i zero l = inl (omega arith)
-    first-or-later zero (suc p) l = inr (omega arith)
-    first-or-later (suc i) (suc p) l = ⊎-elim (λ e. inl (omega arith)) (λ e. inr (omega arith)) (first-or-later i p (omega arith))
+    (λ l. let e : p ≡ i = omega arith in rw (subst (λ j. (f j .drives) k ≡ true) e h) refl)
+    (side i p)
 
 all-obedient : (f : ℕ → Runner) (drives : ℕ → Bool) (n i m : ℕ) → ((p : ℕ) → i ≤ p → p < i + m → Obedient drives n (f p)) → AllObedient drives n (tabulate f i m)
 unfolding tabulate AllObedient

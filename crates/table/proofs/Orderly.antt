@@ -1,5 +1,5 @@
 -- What posts, joins and cycles keep of pending changes, so that the session after a call is fit. Assumes nothing.
-use Prim.Native.Nat.{ℕ, zero, suc, _+_, _≤_, _<_, min}
+use Prim.Native.Nat.{ℕ, zero, suc, _+_, _≤_, _<_}
 use native.Mathlib.Omega.{arith}
 use mathlib.Core.Path.{_≡_, refl, sym, _∙_, ap, subst}
 use mathlib.Core.Bool.{Bool, true, false, true≢false}
@@ -8,14 +8,13 @@ use mathlib.Core.List.{List, [], _∷_, _++_, map}
 use lib.Dec.{ltb, eqb}
 use lib.ListN.{length, getD, set, replicate, length-set, length-append, length-map, length-replicate, List·getD-map}
 use lib.Seq.{getD-set-same, getD-set-other, set-out}
-use borrow.Author.Tests.{ltb-true, ltb-false, eqb-true, eqb-false}
+use borrow.Author.Tests.{ltb-true, eqb-true, eqb-false}
 use Rattle.rules.specs.Sizes.{longest, mostPending}
-use Rattle.rules.specs.Outcome.{Outcome, refuses, gives, _then_}
 use Rattle.rules.specs.Formulas.{Values}
 use Rattle.rules.specs.Pending.{Change, Pending, before, post, kept}
 use Rattle.rules.specs.Runner.{Left, Runner, over, join, joined}
 use Rattle.rules.specs.Session.{Each, Rising}
-use Rattle.table.proofs.Outcomes.{split, Gives, gives-then}
+use Rattle.table.proofs.Outcomes.{split, side, Gives, gives-then}
 use Rattle.table.proofs.Overlays.{length-over, over-driven, over-other}
 use Rattle.table.proofs.Changes.{each-before, each-kept, each-append, before-earlier, rising-before, rising-kept, rising-append, length-kept}
 
@@ -59,9 +58,6 @@ tidy-kept low high t cs h =
 apart : (j k : ℕ) → (j ≡ k) ⊎ (j ≡ k → ⊥)
 apart j k = split (eqb j k) (λ e. inl (eqb-true j k e)) (λ e. inr (eqb-false j k e))
 
-pub below : (k n : ℕ) → (k < n) ⊎ (n ≤ k)
-below k n = split (ltb k n) (λ e. inl (ltb-true k n e)) (λ e. inr (ltb-false k n e))
-
 module _ (driven : ℕ → Bool) (n low high : ℕ) where
   -- a signal's changes are replaced by tidy ones
   orderly-set : (p : Pending) (k : ℕ) (cs : List Change) → driven k ≡ true → Tidy low high cs → Orderly driven n low high p
@@ -73,7 +69,7 @@ module _ (driven : ℕ → Bool) (n low high : ℕ) where
             (λ e. ⊎-elim
             (λ l. subst (Tidy low high) (sym (ap (λ i. getD (set p k cs) i []) e ∙ getD-set-same p k cs [] l)) t)
             (λ l. rw (set-out p k cs l) (h .tidy j))
-            (below k (length p)))
+            (side k (length p)))
             (λ e. rw (getD-set-other p k j cs [] e) (h .tidy j))
             (apart j k);
         idle = λ j f. ⊎-elim

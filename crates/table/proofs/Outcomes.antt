@@ -1,6 +1,10 @@
--- Going on from an outcome. Assumes nothing.
+-- Cases of a test, and going on from an outcome. Assumes nothing.
+use Prim.Native.Nat.{ℕ, _≤_, _<_}
 use mathlib.Core.Path.{_≡_, refl}
 use mathlib.Core.Bool.{Bool, true, false}
+use mathlib.Core.Logic.{_⊎_, inl, inr}
+use lib.Dec.{ltb}
+use borrow.Author.Tests.{ltb-true, ltb-false}
 use Rattle.rules.specs.Outcome.{Outcome, refuses, gives, _then_}
 
 -- a test is true or false
@@ -8,11 +12,11 @@ pub split : {A : Type 0} (v : Bool) → (v ≡ true → A) → (v ≡ false → 
 split true f g = f refl
 split false f g = g refl
 
--- two ways to go on from one outcome agree where they agree on what it gives
-pub same : {A B : Type 0} (o : Outcome A) (f g : A → Outcome B) → ((a : A) → f a ≡ g a) → (o then f) ≡ (o then g)
-same (refuses r) f g h = refl
-same (gives a) f g h = h a
+-- a number is below another or not
+pub side : (k n : ℕ) → (k < n) ⊎ (n ≤ k)
+side k n = split (ltb k n) (λ e. inl (ltb-true k n e)) (λ e. inr (ltb-false k n e))
 
+-- two ways to go on from one outcome agree where they agree on what it gives
 pub onward : {A B C : Type 0} (o : Outcome A) (f : A → Outcome C) (g : A → Outcome B) (h : B → Outcome C)
     → ((a : A) → f a ≡ (g a then h)) → (o then f) ≡ (o then g then h)
 onward (refuses r) f g h e = refl

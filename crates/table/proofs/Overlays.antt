@@ -1,14 +1,14 @@
 -- Pending changes of the driven signals laid over others. Assumes nothing.
-use Prim.Native.Nat.{ℕ, zero, suc, _<_}
+use Prim.Native.Nat.{ℕ, zero, suc}
 use native.Mathlib.Omega.{arith}
-use mathlib.Core.Path.{_≡_, refl, _∙_, ap, ap₂}
+use mathlib.Core.Path.{_≡_, refl, ap, ap₂}
 use mathlib.Core.Bool.{Bool, true, false}
-use mathlib.Core.List.{List, [], _∷_, _++_}
+use mathlib.Core.List.{List, [], _∷_}
 use lib.Dec.{ltb}
 use lib.ListN.{length, getD, set, length-set}
 use Rattle.laws.specs.Pick.{pick}
 use Rattle.rules.specs.Sizes.{mostPending}
-use Rattle.rules.specs.Outcome.{Outcome, refuses, gives, _then_}
+use Rattle.rules.specs.Outcome.{gives, _then_}
 use Rattle.rules.specs.Pending.{Change, Pending, before, post}
 use Rattle.rules.specs.Runner.{over}
 use Rattle.table.proofs.Outcomes.{split, Gives}

@@ -2,23 +2,22 @@
 use Prim.Native.Nat.{ℕ, zero, suc, _+_, _≤_, _<_}
 use native.Mathlib.Omega.{arith}
 use mathlib.Core.Path.{_≡_, refl, sym, _∙_, ap, subst}
-use mathlib.Core.Bool.{Bool, true, false}
+use mathlib.Core.Bool.{true, false}
 use mathlib.Core.List.{List, [], _∷_, map}
 use lib.Dec.{ltb}
 use lib.ListN.{length, getD, replicate}
 use borrow.Author.Tests.{ltb-false}
-use Rattle.laws.specs.Pick.{pick}
 use Rattle.rules.specs.Sizes.{longest, mostCycles}
-use Rattle.rules.specs.Outcome.{Outcome, refuses, gives, _then_}
+use Rattle.rules.specs.Outcome.{Outcome, refuses, gives}
 use Rattle.rules.specs.Formulas.{Values}
 use Rattle.rules.specs.Pending.{Pending, kept, valuesAt, dueIn, due, Least, nothing, first, least}
-use Rattle.rules.specs.Runner.{Left, Runner, joined}
-use Rattle.rules.specs.Session.{Session, Each, driven, woken, FitSession}
+use Rattle.rules.specs.Runner.{Runner, joined}
+use Rattle.rules.specs.Session.{Session, driven, woken, FitSession}
 use Rattle.rules.specs.Dump.{startBytes, advanceBytes}
-use Rattle.rules.specs.Calls.{Progress, Moved, Answer, refused, quiet, stopReached, moved, answered, cycle, cycles, started, start, advanceTo, advance, leaves}
+use Rattle.rules.specs.Calls.{Progress, Answer, refused, quiet, stopReached, moved, answered, cycle, cycles, started, start, advanceTo, advance, leaves}
 use Rattle.table.proofs.Outcomes.{split, Gives, gives-then}
 use Rattle.table.proofs.Changes.{each-more, neither, later-kept}
-use Rattle.table.proofs.Orderly.{Tidy, Orderly, InOrder, AllObedient, orderly-kept, orderly-nothing, joined-orderly}
+use Rattle.table.proofs.Orderly.{Orderly, InOrder, AllObedient, orderly-kept, orderly-nothing, joined-orderly}
 use Rattle.table.proofs.Leasts.{none-earlier, something-due, later-than}
 
 length-values : (t : ℕ) (vs : Values) (p : Pending) → length (valuesAt t vs p) ≡ length vs

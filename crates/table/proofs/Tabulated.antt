@@ -1,19 +1,13 @@
 -- Tabulated lists, and words of yes-or-nos. Assumes nothing.
-use Prim.Native.Nat.{ℕ, zero, suc, _+_, _*_, _^_, _/_, _%_, _≤_, _<_}
+use Prim.Native.Nat.{ℕ, zero, suc, _+_, _*_, _^_, _/_, _%_, _<_}
 use native.Mathlib.Nat.{pow-suc}
 use native.Mathlib.Omega.{arith}
 use mathlib.Core.Path.{_≡_, refl, _∙_, ap, ap₂}
 use mathlib.Core.Bool.{Bool, true, false}
-use mathlib.Core.Logic.{_⊎_, inl, inr, ⊎-elim}
 use mathlib.Core.List.{List, [], _∷_, map}
 use lib.ListN.{length, getD}
 use Rattle.table.specs.Table.{bit, tabulate}
 use Rattle.table.specs.Translation.{number, word}
-
-pub side : (k n : ℕ) → (k < n) ⊎ (n ≤ k)
-side k zero = inr (omega arith)
-side zero (suc n) = inl (omega arith)
-side (suc k) (suc n) = ⊎-elim (λ l. inl (omega arith)) (λ l. inr (omega arith)) (side k n)
 
 module _ {A : Type 0} where
   pub length-tabulate : (f : ℕ → A) (i n : ℕ) → length (tabulate f i n) ≡ n

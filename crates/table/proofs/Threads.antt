@@ -8,7 +8,7 @@ use lib.ListN.{length, getD}
 use Rattle.rules.specs.Outcome.{Outcome, gives, _then_}
 use Rattle.rules.specs.Formulas.{Values}
 use Rattle.rules.specs.Pending.{Pending}
-use Rattle.rules.specs.Runner.{Left, Runner, over, join, joined}
+use Rattle.rules.specs.Runner.{Left, Runner, over, joined}
 use Rattle.table.proofs.Outcomes.{split, onward₂}
 use Rattle.table.proofs.Overlays.{length-over, over-other, over-same}
 

@@ -2,8 +2,7 @@
 use Prim.Native.Nat.{ℕ, zero, suc, _+_, _*_, _/_, _%_, _^_, _≤_, _<_}
 use native.Mathlib.Nat.{pow-suc}
 use native.Mathlib.Omega.{arith}
-use mathlib.Core.Path.{_≡_, refl, sym, _∙_, ap}
-use mathlib.Core.Bool.{Bool, true, false}
+use mathlib.Core.Path.{_≡_, refl}
 use mathlib.Core.List.{List, [], _∷_, _++_}
 use lib.Dec.{ltb}
 use lib.ListN.{length, length-append}
@@ -13,11 +12,11 @@ use Rattle.words.specs.Token.{Name}
 use Rattle.rules.specs.Sizes.{mostSignals, longest, mostCycles, bufferBytes}
 use Rattle.rules.specs.Outcome.{Outcome, refuses, gives}
 use Rattle.rules.specs.Formulas.{Values, differ}
-use Rattle.rules.specs.Dump.{LF, identifier, variables, header, digits, decimal, shown, all, startBytes, changed, headed, advanceBytes}
+use Rattle.rules.specs.Dump.{LF, variables, header, digits, decimal, all, startBytes, changed, headed, advanceBytes}
 use Rattle.rules.specs.Pending.{Least, nothing, first, least}
 use Rattle.rules.specs.Runner.{Runner}
 use Rattle.rules.specs.Session.{Session}
-use Rattle.rules.specs.Calls.{Progress, Moved, Answer, refused, quiet, stopReached, moved, answered, cycles, started, start, advanceTo, advance}
+use Rattle.rules.specs.Calls.{Progress, Answer, refused, quiet, stopReached, moved, answered, cycles, started, start, advanceTo, advance}
 use Rattle.table.proofs.Outcomes.{split}
 use Rattle.table.proofs.Sessions.{AnswersFit}
 

@@ -1,8 +1,7 @@
 -- Case A's table, and what it does: P1 and P2 again, by the machine. Assumes nothing: each is computed.
-use Prim.Native.Nat.{ℕ}
 use mathlib.Core.Path.{_≡_, refl}
-use mathlib.Core.Bool.{Bool, true, false}
-use mathlib.Core.List.{List, [], _∷_}
+use mathlib.Core.Bool.{false}
+use mathlib.Core.List.{[], _∷_}
 use Rattle.laws.specs.Text.{bytes}
 use Rattle.rules.specs.Formulas.{size}
 use Rattle.rules.specs.Pending.{before, post, taken, kept, valuesAt, dueIn, due, leastIn, least}
@@ -15,7 +14,7 @@ use Rattle.rules.specs.Sized.{instructions}
 use Rattle.rules.specs.Cases.{pair, at0, at3}
 use Rattle.table.specs.Instructions.{name, negation, assignment}
 use Rattle.table.specs.Machine.{does, walk}
-use Rattle.table.specs.Table.{Table, bit, tabulate, posts, runner, runners}
+use Rattle.table.specs.Table.{bit, tabulate, posts, runner, runners}
 use Rattle.table.specs.Translation.{formulaCode, code, endsFrom, codeFrom, word, listenersOf, translate}
 
 -- q wakes both processes, d wakes none; three instructions each
