@@ -143,12 +143,14 @@ fn code_of(word: &[u8]) -> u64
     code
 }
 
+// The table is made once: an index of the constant would make it anew at every turn.
 fn find(code: u64) -> usize
     ensures { λ r. ⌜ r ≡ findFrom 0 code codes ⌝ }
 {
+    let table = CODES;
     let mut k = 0;
     while k < 108 {
-        if CODES[k] == code {
+        if table[k] == code {
             return k;
         }
         k += 1;

@@ -12,10 +12,10 @@ use Rattle.words.proofs.vocabulary.find.Statement.{statement}
 use Rattle.words.proofs.vocabulary.find.Tie as tie
 
 abbrev Inv-loop : tie.InvT-loop
-Inv-loop code k₀ k = (k ≤ 108) × (findFrom k code (drop k codes) ≡ findFrom 0 code codes)
+Inv-loop code table k₀ k = (k ≤ 108) × (findFrom k code (drop k codes) ≡ findFrom 0 code codes)
 
 abbrev μ-loop : tie.MeasureT-loop
-μ-loop code k₀ k = 108 - k
+μ-loop code table k₀ k = 108 - k
 
 loop-holds : tie.Need-loop-holds Inv-loop μ-loop
 loop-holds c = search needs
