@@ -4,3 +4,4 @@ pub mod Columns
 pub mod InstructionWords
 -- Of tables:
 pub mod TableLaws
+pub mod Tables
