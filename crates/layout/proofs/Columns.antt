@@ -1,11 +1,11 @@
 -- Columns of words: what stands in one, what stands behind it, and the list that is read back from one. Assumes nothing.
-use Prim.Native.Nat.{ℕ, zero, suc, _+_, _≤_, _<_}
+use Prim.Native.Nat.{ℕ, _+_, _-_, _≤_, _<_}
 use native.Mathlib.Omega.{arith}
 use mathlib.Core.Path.{_≡_, refl, sym, _∙_, ap}
 use mathlib.Core.Bool.{Bool, true, false}
-use mathlib.Core.List.{List, [], _∷_, _++_, map}
+use mathlib.Core.List.{List, _++_}
 use lib.Dec.{eqb}
-use lib.ListN.{length, getD, length-append, List·getD-append}
+use lib.ListN.{length, getD, List·getD-append}
 use lib.Seq.{getD-append-add, ext-getD}
 use Rattle.table.specs.Table.{tabulate}
 use Rattle.table.specs.Translation.{number}
@@ -32,6 +32,13 @@ pub in-column : (words list rest : List ℕ) (from size : ℕ) → Stands words 
     → (k : ℕ) → k < size → getD words (from + k) 0 ≡ getD list k 0
 in-column words list rest from size s k h =
     s k ∙ List·getD-append (column size list) rest 0 k (omega (arith, length-column size list)) ∙ at-column size list k h
+
+-- where words agree in a part, they agree in each place of it
+pub in-part : (words others : List ℕ) (from size i : ℕ) → ((k : ℕ) → k < size → getD words (from + k) 0 ≡ getD others (from + k) 0) → from ≤ i → i < from + size
+    → getD words i 0 ≡ getD others i 0
+in-part words others from size i e lo hi =
+    let q : from + (i - from) ≡ i = omega arith in
+    ap (λ n. getD words n 0) (sym q) ∙ e (i - from) (omega arith) ∙ ap (λ n. getD others n 0) q
 
 -- a list of which each element is read back is read back
 pub read-list : {A : Type 0} (f : ℕ → A) (d : A) (list : List A) (n : ℕ) → n ≡ length list

@@ -2,6 +2,10 @@
 -- Of columns and single words:
 pub mod Columns
 pub mod InstructionWords
+pub mod ChangeWords
 -- Of tables:
 pub mod TableLaws
 pub mod Tables
+-- Of sessions:
+pub mod SessionLaws
+pub mod Sessions
