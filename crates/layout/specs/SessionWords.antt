@@ -1,8 +1,8 @@
 -- A session in words: which word holds what, and when words hold a session that is fit for a table. Unused places are zero.
 -- Assumes nothing: these are definitions.
-use Prim.Native.Nat.{ℕ, _+_, _*_, _≤_, _<_}
+use Prim.Native.Nat.{ℕ, _+_, _*_, _/_, _%_, _≤_, _<_}
 use mathlib.Core.Path.{_≡_, refl}
-use mathlib.Core.Bool.{Bool, true, false}
+use mathlib.Core.Bool.{true}
 use mathlib.Core.List.{List, [], _∷_, _++_, map}
 use lib.ListN.{length, getD}
 use Rattle.rules.specs.Pending.{Change, change}
@@ -39,12 +39,9 @@ changeWord c = 2 * c .time + number (c .value)
 
 -- THE WORDS OF A SESSION
 
+-- 16 words for each signal: word j of signal k stands at 16 * k + j
 abbrev pub changeColumns : ℕ → List (List Change) → List ℕ
-changeColumns signals pending = all (tabulate (λ k. column 16 (map changeWord (getD pending k []))) 0 signals)
-  where
-    all : List (List ℕ) → List ℕ
-    all [] = []
-    all (words ∷ more) = words ++ all more
+changeColumns signals pending = tabulate (λ n. getD (map changeWord (getD pending (n / 16) [])) (n % 16) 0) 0 (16 * signals)
 
 unfoldable pub sessionWords : Session → List ℕ
 sessionWords s =
