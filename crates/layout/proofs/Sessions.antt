@@ -12,7 +12,8 @@ use Rattle.rules.specs.Runner.{Runner}
 use Rattle.rules.specs.Session.{Session, FitSession}
 use Rattle.table.specs.Table.{Table, tabulate, runners}
 use Rattle.table.specs.Translation.{number}
-use Rattle.table.proofs.Tabulated.{side, length-tabulate, at-tabulate}
+use Rattle.table.proofs.Outcomes.{side}
+use Rattle.table.proofs.Tabulated.{length-tabulate, at-tabulate}
 use Rattle.layout.specs.TableWords.{column}
 use Rattle.layout.specs.SessionWords.{countAt, timeAt, valuesFrom, pendingFrom, changesFrom, sessionSize, changeWord, changeColumns, sessionWords, HoldsSession, FitSessionWords}
 use Rattle.layout.proofs.Columns.{truth, length-column, Stands, behind-column, in-column, in-part, read-list}
