@@ -1,0 +1,3 @@
+-- The demands over definitions.
+pub mod Worked
+pub mod Demands
