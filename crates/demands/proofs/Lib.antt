@@ -1,3 +1,4 @@
 -- The demands over definitions.
 pub mod Worked
 pub mod Demands
+pub mod Header

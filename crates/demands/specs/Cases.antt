@@ -50,13 +50,13 @@ cases =
     ∷ case (woken "q <= transport not not q;") [] (turnedAway 3 103)
     -- P8: true after 8 ns, then false after 3 ns: only the second is left
     ∷ case (woken "q <= transport true after 8 ns; q <= transport false after 3 ns;") (10000000 ∷ 10000000 ∷ [])
-      (dumped headerE (started "0!" 0 4 ∷ moves [] 3000000 1 0 ∷ isQuiet ∷ []))
+    (dumped headerE (started "0!" 0 4 ∷ moves [] 3000000 1 0 ∷ isQuiet ∷ []))
     -- P9: true after 3, false after 8: both, and at 3 the process runs again
     ∷ case (woken "if not q then q <= transport true after 3 ns; q <= transport false after 8 ns; end if;") (10000000 ∷ 10000000 ∷ [])
-      (dumped headerE (started "0!" 0 8 ∷ moves (bytes "#3000000\n1!\n") 3000000 1 3 ∷ moves (bytes "#8000000\n0!\n") 8000000 1 8 ∷ []))
+    (dumped headerE (started "0!" 0 8 ∷ moves (bytes "#3000000\n1!\n") 3000000 1 3 ∷ moves (bytes "#8000000\n0!\n") 8000000 1 8 ∷ []))
     -- P10: both after 3: the later written
     ∷ case (woken "if not q then q <= transport false after 3 ns; q <= transport true after 3 ns; end if;") (10000000 ∷ 10000000 ∷ [])
-      (dumped headerE (started "0!" 0 8 ∷ moves (bytes "#3000000\n1!\n") 3000000 1 3 ∷ isQuiet ∷ []))
+    (dumped headerE (started "0!" 0 8 ∷ moves (bytes "#3000000\n1!\n") 3000000 1 3 ∷ isQuiet ∷ []))
     -- P11
     ∷ case (woken "q <= transport q after 1000 sec;") [] (dumped headerE (started "0!" 0 2 ∷ []))
     ∷ case (woken "q <= transport q after 1001 sec;") [] (turnedAway 8 107)
@@ -67,6 +67,6 @@ cases =
     ∷ case (woken "q <= transport not q;") [] (dumped headerE (isRefused 16 ∷ []))
     -- P14: no signals, no processes
     ∷ case (bytes "entity e is end; architecture a of e is begin end;") (10000000 ∷ [])
-      (dumped (bytes "$timescale 1 fs $end\n$scope module e $end\n$upscope $end\n$enddefinitions $end\n")
-      (moves (bytes "#0\n$dumpvars\n$end\n") 0 0 0 ∷ isQuiet ∷ []))
+    (dumped (bytes "$timescale 1 fs $end\n$scope module e $end\n$upscope $end\n$enddefinitions $end\n")
+    (moves (bytes "#0\n$dumpvars\n$end\n") 0 0 0 ∷ isQuiet ∷ []))
     ∷ []

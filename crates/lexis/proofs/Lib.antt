@@ -4,3 +4,4 @@ pub mod Walks
 pub mod Bounds
 pub mod Lexemes
 pub mod Scans
+pub mod Names
