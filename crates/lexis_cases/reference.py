@@ -2,10 +2,10 @@
 """The cases of lexis_cases and what is expected of them, from document 01's words under 'The text' and 'units of time'.
 
 Run by hand, and not by the gate:  python3 crates/lexis_cases/reference.py  (Python 3.9 or later)
-It writes the files stdin and stdout beside itself. It shares nothing with the proved code: it scans by regular
-expressions, computes with integers of any size, and has its own list of the reserved words of IEEE Std 1076-1993
-(clause 13.9). Only the order of the rows is taken over: the words of the subset, then the other reserved words by
-the alphabet, then 108 for a name.
+It writes the files stdin and stdout beside itself. It shares no code with the product: it scans by regular
+expressions and computes with integers of any size. The 97 reserved words of IEEE Std 1076-1993 are typed anew; GHDL
+with --std=93 takes none of them as a name. The order of the rows is taken over: the words of the subset, then the
+other reserved words by the alphabet, then 108 for a name.
 
 A case is a letter, four digits for the length of its text, LF, the text, and LF:
   t  the tokens of the text, each as PLACE+LENGTH KIND, then `end` or `refused PLACE`
