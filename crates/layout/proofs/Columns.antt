@@ -1,7 +1,7 @@
 -- Columns of words: what stands in one, what stands behind it, and the list that is read back from one. Assumes nothing.
 use Prim.Native.Nat.{ℕ, _+_, _-_, _≤_, _<_}
 use native.Mathlib.Omega.{arith}
-use mathlib.Core.Path.{_≡_, refl, sym, _∙_, ap}
+use mathlib.Core.Path.{_≡_, refl, sym, _∙_, ap, subst}
 use mathlib.Core.Bool.{Bool, true, false}
 use mathlib.Core.List.{List, _++_}
 use lib.Dec.{eqb}
@@ -13,7 +13,7 @@ use Rattle.table.proofs.Tabulated.{length-tabulate, at-tabulate}
 use Rattle.layout.specs.TableWords.{column}
 
 pub length-column : (size : ℕ) (list : List ℕ) → length (column size list) ≡ size
-length-column size list = length-tabulate (λ k. getD list k 0) 0 size
+length-column size list = length-tabulate _ 0 size
 
 pub at-column : (size : ℕ) (list : List ℕ) (k : ℕ) → k < size → getD (column size list) k 0 ≡ getD list k 0
 at-column size list k h = at-tabulate (λ i. getD list i 0) 0 0 size k h ∙ ap (λ i. getD list i 0) (omega arith)
@@ -33,12 +33,11 @@ pub in-column : (words list rest : List ℕ) (from size : ℕ) → Stands words 
 in-column words list rest from size s k h =
     s k ∙ List·getD-append (column size list) rest 0 k (omega (arith, length-column size list)) ∙ at-column size list k h
 
--- where words agree in a part, they agree in each place of it
-pub in-part : (words others : List ℕ) (from size i : ℕ) → ((k : ℕ) → k < size → getD words (from + k) 0 ≡ getD others (from + k) 0) → from ≤ i → i < from + size
-    → getD words i 0 ≡ getD others i 0
-in-part words others from size i e lo hi =
+-- what holds of each place of a part, counted from its first, holds of each place in it
+pub in-part : (P : ℕ → Type 0) (from size i : ℕ) → ((k : ℕ) → k < size → P (from + k)) → from ≤ i → i < from + size → P i
+in-part P from size i h lo hi =
     let q : from + (i - from) ≡ i = omega arith in
-    ap (λ n. getD words n 0) (sym q) ∙ e (i - from) (omega arith) ∙ ap (λ n. getD others n 0) q
+    subst P q (h (i - from) (omega arith))
 
 -- a list of which each element is read back is read back
 pub read-list : {A : Type 0} (f : ℕ → A) (d : A) (list : List A) (n : ℕ) → n ≡ length list

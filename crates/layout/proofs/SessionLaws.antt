@@ -1,8 +1,9 @@
 -- What each word of a session says, where the words hold a session and the session is fit. Assumes nothing.
-use Prim.Native.Nat.{ℕ, _+_, _*_, _/_, _^_, _≤_, _<_}
+use Prim.Native.Nat.{ℕ, zero, suc, _+_, _*_, _/_, _%_, _^_, _≤_, _<_}
 use native.Mathlib.Omega.{arith}
-use mathlib.Core.Path.{_≡_, _∙_, ap}
+use mathlib.Core.Path.{_≡_, _∙_, ap, subst}
 use mathlib.Core.Bool.{false}
+use mathlib.Core.Logic.{⊎-elim}
 use mathlib.Core.List.{List, [], map}
 use lib.ListN.{length, getD, length-map, List·getD-map, List·getD-eq-default}
 use Rattle.rules.specs.Sizes.{longest}
@@ -10,13 +11,28 @@ use Rattle.rules.specs.Pending.{Change}
 use Rattle.rules.specs.Runner.{Runner}
 use Rattle.rules.specs.Session.{Session, FitSession}
 use Rattle.table.specs.Translation.{number}
-use Rattle.layout.specs.SessionWords.{countAt, timeAt, valuesFrom, pendingFrom, changesFrom, changeWord, HoldsSession}
-use Rattle.layout.proofs.Columns.{truth, truth-number, number-below}
+use Rattle.table.proofs.Tabulated.{side}
+use Rattle.layout.specs.SessionWords.{countAt, timeAt, valuesFrom, pendingFrom, changesFrom, sessionSize, changeWord, HoldsSession}
+use Rattle.layout.proofs.Columns.{in-part, truth, truth-number, number-below}
 use Rattle.layout.proofs.ChangeWords.{changeOf, change-of-word, time-of-word, changeWord-below, none, each-at, rising-at}
 
 -- the pending change j of signal k
 abbrev pub pendingChange : Session → ℕ → ℕ → Change
 pendingChange s k j = getD (getD (s .pending) k []) j none
+
+-- each place of a session is a count, the time, or in one of the columns
+pub session-place : (P : ℕ → Type 0) → P countAt → P timeAt → ((k : ℕ) → k < 64 → P (valuesFrom + k)) → ((k : ℕ) → k < 64 → P (pendingFrom + k))
+    → ((k j : ℕ) → k < 64 → j < 16 → P (changesFrom + 16 * k + j)) → (i : ℕ) → i < sessionSize → P i
+session-place P n t a b c zero l = n
+session-place P n t a b c (suc zero) l = t
+session-place P n t a b c (suc (suc j)) l =
+    let i = suc (suc j) in
+    ⊎-elim (λ u. in-part P valuesFrom 64 i a (omega arith) (omega arith))
+    (λ u. ⊎-elim (λ v. in-part P pendingFrom 64 i b (omega arith) (omega arith))
+    (λ v. in-part P changesFrom 1024 i
+    (λ m o. let q : changesFrom + 16 * (m / 16) + m % 16 ≡ changesFrom + m = omega arith in subst P q (c (m / 16) (m % 16) (omega arith) (omega arith)))
+    (omega arith) (omega arith))
+    (side i changesFrom)) (side i pendingFrom)
 
 -- OF WORDS THAT HOLD A SESSION
 
@@ -106,3 +122,15 @@ module _ (rs : List Runner) (n : ℕ) (words : List ℕ) (s : Session) (h : Hold
         change-time words s h k j l c,
         rising-at (getD (s .pending) k []) none i j (f .rising k) b (there k j l m),
       )
+
+  -- each word has 64 bits
+  pub session-words-below : n ≤ 64 → (i : ℕ) → i < sessionSize → getD words i 0 < 2 ^ 64
+  session-words-below few =
+      session-place (λ i. getD words i 0 < 2 ^ 64)
+      (omega (arith, count-is)) (omega (arith, time-most))
+      (λ k l. omega (arith, value-below words s h k l))
+      (λ k l. omega (arith, pending-most k l))
+      (λ k j l m. ⊎-elim
+      (λ u. omega (arith, change-below k j l u))
+      (λ u. omega (arith, changes-unused words s h k j u l m))
+      (side j (getD words (pendingFrom + k) 0)))

@@ -1,9 +1,8 @@
 -- The session that words hold, and the words that hold a session: each is one, and the one gives back the other. Assumes nothing.
-use Prim.Native.Nat.{ℕ, zero, suc, _+_, _*_, _/_, _%_, _≤_, _<_}
+use Prim.Native.Nat.{ℕ, _+_, _*_, _/_, _%_, _≤_, _<_}
 use native.Mathlib.Omega.{arith}
 use mathlib.Core.Path.{_≡_, refl, sym, _∙_, ap, ap₂}
 use mathlib.Core.Bool.{false}
-use mathlib.Core.Logic.{⊎-elim}
 use mathlib.Core.List.{List, [], _∷_, _++_, map}
 use lib.ListN.{length, getD, take, length-append, List·getD-append}
 use lib.Seq.{getD-append-add, getD-take, length-take-le, ext-getD}
@@ -12,12 +11,12 @@ use Rattle.rules.specs.Runner.{Runner}
 use Rattle.rules.specs.Session.{Session, FitSession}
 use Rattle.table.specs.Table.{Table, tabulate, runners}
 use Rattle.table.specs.Translation.{number}
-use Rattle.table.proofs.Tabulated.{side, length-tabulate, at-tabulate}
+use Rattle.table.proofs.Tabulated.{length-tabulate, at-tabulate}
 use Rattle.layout.specs.TableWords.{column}
 use Rattle.layout.specs.SessionWords.{countAt, timeAt, valuesFrom, pendingFrom, changesFrom, sessionSize, changeWord, changeColumns, sessionWords, HoldsSession, FitSessionWords}
-use Rattle.layout.proofs.Columns.{truth, length-column, Stands, behind-column, in-column, in-part, read-list}
+use Rattle.layout.proofs.Columns.{truth, length-column, Stands, behind-column, in-column, read-list}
 use Rattle.layout.proofs.ChangeWords.{changeOf, none}
-use Rattle.layout.proofs.SessionLaws.{value-truth, pending-at, change-read}
+use Rattle.layout.proofs.SessionLaws.{session-place, value-truth, pending-at, change-read}
 
 -- THE SESSION THAT WORDS HOLD
 
@@ -133,23 +132,14 @@ holds-sessionWords s more e =
     (λ i l. List·getD-append (sessionWords s) more 0 i (omega (arith, length-sessionWords s)))
     (sessionWords-hold s e)
 
-module _ (words others : List ℕ) (s : Session) (h : HoldsSession words s) (g : HoldsSession others s) where
-  same-change : (n : ℕ) → n < 1024 → getD words (changesFrom + n) 0 ≡ getD others (changesFrom + n) 0
-  same-change n l =
-      let q : changesFrom + 16 * (n / 16) + n % 16 ≡ changesFrom + n = omega arith in
-      let k : n / 16 < 64 = omega arith in
-      let j : n % 16 < 16 = omega arith in
-      ap (λ i. getD words i 0) (sym q) ∙ h .changes (n / 16) (n % 16) k j ∙ sym (g .changes (n / 16) (n % 16) k j) ∙ ap (λ i. getD others i 0) q
-
-  same-place : (i : ℕ) → i < sessionSize → getD words i 0 ≡ getD others i 0
-  same-place zero l = h .count ∙ sym (g .count)
-  same-place (suc zero) l = h .time ∙ sym (g .time)
-  same-place (suc (suc j)) l =
-      let i = suc (suc j) in
-      ⊎-elim (λ a. in-part words others valuesFrom 64 i (λ k m. h .values k m ∙ sym (g .values k m)) (omega arith) (omega arith))
-      (λ a. ⊎-elim (λ b. in-part words others pendingFrom 64 i (λ k m. h .pending k m ∙ sym (g .pending k m)) (omega arith) (omega arith))
-      (λ b. in-part words others changesFrom 1024 i same-change (omega arith) (omega arith))
-      (side i changesFrom)) (side i pendingFrom)
+same-place : (words others : List ℕ) (s : Session) → HoldsSession words s → HoldsSession others s → (i : ℕ) → i < sessionSize → getD words i 0 ≡ getD others i 0
+same-place words others s h g =
+    session-place (λ i. getD words i 0 ≡ getD others i 0)
+    (h .count ∙ sym (g .count))
+    (h .time ∙ sym (g .time))
+    (λ k l. h .values k l ∙ sym (g .values k l))
+    (λ k l. h .pending k l ∙ sym (g .pending k l))
+    (λ k j l m. h .changes k j l m ∙ sym (g .changes k j l m))
 
 -- the words that hold a session are the session's own: unused places are zero
 pub words-of-session : (words : List ℕ) (s : Session) → HoldsSession words s → take sessionSize words ≡ sessionWords s
