@@ -9,3 +9,5 @@ pub mod Tables
 -- Of sessions:
 pub mod SessionLaws
 pub mod Sessions
+-- Of words that may hold neither:
+pub mod Decoded

@@ -50,8 +50,8 @@ module _ (rs : List Runner) (n : ℕ) (few : n ≤ 64) where
   one-session words s u h f g e = sym (decode-session words s h f) ∙ decode-session words u g e
 
 -- fit words hold the session that they are read as
-pub fit-session-words : (t : Table) (words : List ℕ) → length (t .initial) ≤ 64 → (f : FitSessionWords t words) → f .session ≡ decodeSession words
-fit-session-words t words l f = sym (decode-session (runners t) (length (t .initial)) l words (f .session) (f .holds) (f .fit))
+pub session-of-fit-words : (t : Table) (words : List ℕ) → length (t .initial) ≤ 64 → (f : FitSessionWords t words) → f .session ≡ decodeSession words
+session-of-fit-words t words l f = sym (decode-session (runners t) (length (t .initial)) l words (f .session) (f .holds) (f .fit))
 
 -- THE WORDS THAT HOLD A SESSION
 
