@@ -13,7 +13,8 @@ use Rattle.table.specs.Instructions.{Instruction, name, literal, negation, bina
 use Rattle.table.specs.Translation.{number}
 use Rattle.table.specs.Fit.{Leads, Ahead, Exists}
 use Rattle.layout.specs.TableWords.{operationWord, delayWord}
-use Rattle.fitness.specs.Inside.Decoded.{kinds, instructionOf}
+use Rattle.layout.proofs.Columns.{truth}
+use Rattle.layout.proofs.InstructionWords.{kinds, instructionOf}
 use Rattle.fitness.specs.Inside.Kinds.{takesOf, leavesOf, Follows, next, jump, Forward, aboutBelow, delayBelow, Legal}
 use Rattle.fitness.specs.Inside.Drivers.{Posts}
 
@@ -68,7 +69,7 @@ unfolding takesOf leavesOf
 kind-is kind about delay l =
     twelve (λ k. Kind k about (getD (kinds about delay) k negation))
     (plain 0 about (name about) (omega arith) refl refl (λ x y e. e) (λ x y e. e) (λ e x. tt) (λ k p. p))
-    (plain 1 about (literal (eqb about 1)) (omega arith) refl refl (λ x y e. e) (λ x y e. e) (λ e x. tt) (λ k p. p))
+    (plain 1 about (literal (truth about)) (omega arith) refl refl (λ x y e. e) (λ x y e. e) (λ e x. tt) (λ k p. p))
     (plain 2 about negation (omega arith) refl refl (λ x y e. e) (λ x y e. e) (λ e x. tt) (λ k p. p))
     (plain 3 about (binary AND) (omega arith) refl refl (λ x y e. e) (λ x y e. e) (λ e x. tt) (λ k p. p))
     (plain 4 about (binary OR) (omega arith) refl refl (λ x y e. e) (λ x y e. e) (λ e x. tt) (λ k p. p))
@@ -147,7 +148,7 @@ record Words (kind about delay : ℕ) (i : Instruction) : Type 0 where
   operation : operationWord i ≡ kind + 16 * about
   late : delayWord i ≡ delay
 
-value-is : (about : ℕ) → about < 2 → number (eqb about 1) ≡ about
+value-is : (about : ℕ) → about < 2 → number (truth about) ≡ about
 value-is zero h = refl
 value-is (suc zero) h = refl
 value-is (suc (suc about)) h = absurd (omega arith)

@@ -13,8 +13,9 @@ use Rattle.table.specs.Table.{Table, begins, tabulate}
 use Rattle.table.specs.Fit.{at}
 use Rattle.table.proofs.Tabulated.{side, length-tabulate, at-tabulate}
 use Rattle.fitness.specs.Decides.{Decides}
-use Rattle.fitness.specs.Inside.Decoded.{signals, processes, instructions, instructionAt, tableOf}
-use Rattle.fitness.specs.Inside.Parts.{Rows, Ready}
+use Rattle.layout.proofs.TableLaws.{instructionAt}
+use Rattle.layout.proofs.Tables.{decodeTable}
+use Rattle.fitness.specs.Inside.Parts.{signals, processes, instructions, Rows, Ready}
 use Rattle.fitness.proofs.Deciding.{same-or}
 use Rattle.fitness.proofs.Kind.{Kind, kind-of}
 
@@ -23,35 +24,35 @@ pub at-place : {A : Type 0} (f : ℕ → A) (d : A) (n k : ℕ) → k < n → ge
 at-place f d n k l = at-tabulate f d 0 n k l ∙ ap f (omega arith)
 
 module _ (w : List ℕ) where
-  pub count-signals : length (tableOf w .initial) ≡ signals w
-  unfolding tableOf
+  pub count-signals : length (decodeTable w .initial) ≡ signals w
+  unfolding decodeTable
   count-signals = length-tabulate _ 0 (signals w)
 
-  pub count-listeners : length (tableOf w .listeners) ≡ signals w
-  unfolding tableOf
+  pub count-listeners : length (decodeTable w .listeners) ≡ signals w
+  unfolding decodeTable
   count-listeners = length-tabulate _ 0 (signals w)
 
-  pub count-processes : length (tableOf w .ends) ≡ processes w
-  unfolding tableOf
+  pub count-processes : length (decodeTable w .ends) ≡ processes w
+  unfolding decodeTable
   count-processes = length-tabulate _ 0 (processes w)
 
-  pub count-instructions : length (tableOf w .code) ≡ instructions w
-  unfolding tableOf
+  pub count-instructions : length (decodeTable w .code) ≡ instructions w
+  unfolding decodeTable
   count-instructions = length-tabulate _ 0 (instructions w)
 
-  pub listeners-word : (k : ℕ) → k < signals w → getD (tableOf w .listeners) k 0 ≡ getD w (67 + k) 0
-  unfolding tableOf
+  pub listeners-word : (k : ℕ) → k < signals w → getD (decodeTable w .listeners) k 0 ≡ getD w (67 + k) 0
+  unfolding decodeTable
   listeners-word k l = at-place (λ j. getD w (67 + j) 0) 0 (signals w) k l
 
-  pub begins-word : (p : ℕ) → p < processes w → begins (tableOf w) (suc p) ≡ getD w (131 + p) 0
-  unfolding tableOf
+  pub begins-word : (p : ℕ) → p < processes w → begins (decodeTable w) (suc p) ≡ getD w (131 + p) 0
+  unfolding decodeTable
   begins-word p l = at-place (λ j. getD w (131 + j) 0) 0 (processes w) p l
 
-  pub begins-next : (p : ℕ) → p < processes w → getD w (131 + p) 0 ≡ begins (tableOf w) (p + 1)
+  pub begins-next : (p : ℕ) → p < processes w → getD w (131 + p) 0 ≡ begins (decodeTable w) (p + 1)
   begins-next p l = rw (add-one p) (sym (begins-word p l))
 
-  pub code-word : (x : ℕ) → x < instructions w → at (tableOf w .code) x ≡ instructionAt w x
-  unfolding tableOf
+  pub code-word : (x : ℕ) → x < instructions w → at (decodeTable w .code) x ≡ instructionAt w x
+  unfolding decodeTable
   code-word x l = at-place (instructionAt w) negation (instructions w) x l
 
 -- ends
@@ -95,11 +96,11 @@ row-of t (suc n) x h =
 abbrev pub RisingTo : Table → ℕ → Type 0
 RisingTo t p = (q : ℕ) → q < p → begins t q ≤ begins t (suc q)
 
-module _ (w : List ℕ) (p from : ℕ) (l : p < processes w) (e : from ≡ begins (tableOf w) p) where
-  pub ends-bad : (m : ℕ) → getD w (131 + p) 0 < from → Rows (tableOf w) (processes w) m → ⊥
+module _ (w : List ℕ) (p from : ℕ) (l : p < processes w) (e : from ≡ begins (decodeTable w) p) where
+  pub ends-bad : (m : ℕ) → getD w (131 + p) 0 < from → Rows (decodeTable w) (processes w) m → ⊥
   ends-bad m h r = omega (arith, r .rising p l, begins-word w p l)
 
-  pub ends-more : from ≤ getD w (131 + p) 0 → RisingTo (tableOf w) p → RisingTo (tableOf w) (p + 1)
+  pub ends-more : from ≤ getD w (131 + p) 0 → RisingTo (decodeTable w) p → RisingTo (decodeTable w) (p + 1)
   ends-more h a q k = ⊎-elim (λ z. rw z (omega (arith, begins-word w p l))) (λ n. a q (omega arith)) (same-or q p)
 
 pub ends-done : (t : Table) (n m p from : ℕ) → n ≡ p → from ≡ begins t p → RisingTo t p → Decides (eqb from m) (Rows t n m)
@@ -112,13 +113,13 @@ ends-done t n m p from h e a =
 
 -- an instruction of legal words is what the number of its kind says
 pub kind-at : (w : List ℕ) → Ready w → (x : ℕ) → x < instructions w
-    → Kind (getD w (195 + x) 0 % 16) (getD w (195 + x) 0 / 16) (at (tableOf w .code) x)
+    → Kind (getD w (195 + x) 0 % 16) (getD w (195 + x) 0 / 16) (at (decodeTable w .code) x)
 unfolding instructionAt
 kind-at w r x l = rw (code-word w x l) (kind-of (signals w) _ _ (r .legal x l))
 
 -- a process's instructions stand among all
 pub begins-low : (w : List ℕ) → Ready w → (p : ℕ) → p < processes w
-    → (begins (tableOf w) p ≤ getD w (131 + p) 0) × (getD w (131 + p) 0 ≤ instructions w)
+    → (begins (decodeTable w) p ≤ getD w (131 + p) 0) × (getD w (131 + p) 0 ≤ instructions w)
 begins-low w r p l =
-    let q = rows-low (tableOf w) (processes w) (instructions w) (r .rows) p l in
+    let q = rows-low (decodeTable w) (processes w) (instructions w) (r .rows) p l in
     (omega (arith, begins-word w p l), omega (arith, begins-word w p l))

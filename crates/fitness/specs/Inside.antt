@@ -1,5 +1,4 @@
 -- Definitions that only private contracts cite. Nobody has to believe them: no public contract names one.
-pub mod Decoded
 pub mod Kinds
 pub mod Parts
 pub mod Heights

@@ -4,8 +4,8 @@ ghost use Prim.Native.Nat.{suc, _<_};
 ghost use lib.ListN.{replicate};
 ghost use Rattle.table.specs.Table.{begins};
 ghost use Rattle.fitness.specs.Decides.{Decides};
-ghost use Rattle.fitness.specs.Inside.Decoded.{processes, instructions, tableOf};
-ghost use Rattle.fitness.specs.Inside.Parts.{Ready};
+ghost use Rattle.layout.proofs.Tables.{decodeTable};
+ghost use Rattle.fitness.specs.Inside.Parts.{processes, instructions, Ready};
 ghost use Rattle.fitness.specs.Inside.Drivers.{Alone, Owned, Drove};
 use crate::heights::put;
 
@@ -13,10 +13,10 @@ use crate::heights::put;
 fn drives(words: &[u64], own: &mut [u8], p: u8, from: usize, upto: usize) -> bool
     requires { ⌜ Ready (now words) ⌝ }
     requires { ⌜ p < processes (now words) ⌝ }
-    requires { ⌜ from ≡ begins (tableOf (now words)) p ⌝ }
-    requires { ⌜ upto ≡ begins (tableOf (now words)) (suc p) ⌝ }
-    requires { ⌜ Owned (tableOf (now words)) (processes (now words)) from (now own) ⌝ }
-    ensures { λ r. ⌜ Drove (tableOf (now (words .entry))) (processes (now (words .entry))) upto r (now (own .exit)) ⌝ }
+    requires { ⌜ from ≡ begins (decodeTable (now words)) p ⌝ }
+    requires { ⌜ upto ≡ begins (decodeTable (now words)) (suc p) ⌝ }
+    requires { ⌜ Owned (decodeTable (now words)) (processes (now words)) from (now own) ⌝ }
+    ensures { λ r. ⌜ Drove (decodeTable (now (words .entry))) (processes (now (words .entry))) upto r (now (own .exit)) ⌝ }
 {
     let driver = p + 1;
     let mut x = from;
@@ -36,7 +36,7 @@ fn drives(words: &[u64], own: &mut [u8], p: u8, from: usize, upto: usize) -> boo
 pub fn owners(words: &[u64], own: &mut [u8]) -> bool
     requires { ⌜ Ready (now words) ⌝ }
     requires { ⌜ now own ≡ replicate 64 0 ⌝ }
-    ensures { λ r. ⌜ Drove (tableOf (now (words .entry))) (processes (now (words .entry))) (instructions (now (words .entry))) r (now (own .exit)) ⌝ }
+    ensures { λ r. ⌜ Drove (decodeTable (now (words .entry))) (processes (now (words .entry))) (instructions (now (words .entry))) r (now (own .exit)) ⌝ }
 {
     let processes = words[1] as u8;
     let mut from = 0;
@@ -56,7 +56,7 @@ pub fn owners(words: &[u64], own: &mut [u8]) -> bool
 // Whether no signal is posted by two processes.
 pub fn alone(words: &[u64]) -> bool
     requires { ⌜ Ready (now words) ⌝ }
-    ensures { λ r. ⌜ Decides r (Alone (tableOf (now (words .entry))) (processes (now (words .entry)))) ⌝ }
+    ensures { λ r. ⌜ Decides r (Alone (decodeTable (now (words .entry))) (processes (now (words .entry)))) ⌝ }
 {
     let mut own = [0u8; 64];
     owners(words, &mut own)

@@ -4,9 +4,9 @@ ghost use mathlib.Core.Bool.{true};
 ghost use Prim.Native.Nat.{_≤_, _<_};
 ghost use lib.ListN.{length, getD};
 ghost use Rattle.fitness.specs.Decides.{Decides};
-ghost use Rattle.fitness.specs.Inside.Decoded.{processes, instructions, tableOf};
+ghost use Rattle.layout.proofs.Tables.{decodeTable};
+ghost use Rattle.fitness.specs.Inside.Parts.{processes, instructions, Ready, Sounds};
 ghost use Rattle.fitness.specs.Inside.Kinds.{Forward};
-ghost use Rattle.fitness.specs.Inside.Parts.{Ready, Sounds};
 ghost use Rattle.fitness.specs.Inside.Heights.{PutAs, Stepped, Fresh, Passed};
 use crate::kinds::leaves_of;
 use crate::kinds::takes_of;
@@ -76,7 +76,7 @@ fn heights(words: &[u64], hs: &mut [u8], from: usize, upto: usize) -> bool
     requires { ⌜ from ≤ upto ⌝ }
     requires { ⌜ upto ≤ instructions (now words) ⌝ }
     requires { ⌜ Fresh from (now hs) ⌝ }
-    ensures { λ r. ⌜ Passed (tableOf (now (words .entry)) .code) from upto r (now (hs .exit)) ⌝ }
+    ensures { λ r. ⌜ Passed (decodeTable (now (words .entry)) .code) from upto r (now (hs .exit)) ⌝ }
 {
     let mut x = from;
     while x < upto {
@@ -101,7 +101,7 @@ fn heights(words: &[u64], hs: &mut [u8], from: usize, upto: usize) -> bool
 // Whether the operands of every process keep the rules.
 pub fn sounds(words: &[u64]) -> bool
     requires { ⌜ Ready (now words) ⌝ }
-    ensures { λ r. ⌜ Decides r (Sounds (tableOf (now (words .entry))) (processes (now (words .entry)))) ⌝ }
+    ensures { λ r. ⌜ Decides r (Sounds (decodeTable (now (words .entry))) (processes (now (words .entry)))) ⌝ }
 {
     let processes = words[1] as usize;
     let mut hs = [0u8; 4097];

@@ -3,9 +3,8 @@ ghost use mathlib.Core.Path.{_≡_};
 ghost use Prim.Native.Nat.{_%_, _≤_, _<_};
 ghost use lib.ListN.{length};
 ghost use Rattle.fitness.specs.Decides.{Decides};
-ghost use Rattle.fitness.specs.Inside.Decoded.{signals, instructions};
+ghost use Rattle.fitness.specs.Inside.Parts.{signals, instructions, Few};
 ghost use Rattle.fitness.specs.Inside.Kinds.{takesOf, leavesOf, aboutBelow, delayBelow, Legal, Legals};
-ghost use Rattle.fitness.specs.Inside.Parts.{Few};
 
 const TAKES: [u8; 12] = [0, 0, 1, 2, 2, 2, 2, 2, 2, 1, 1, 0];
 // What an instruction is about is below this, or, where it is a signal, below the number of signals.

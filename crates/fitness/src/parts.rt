@@ -3,8 +3,8 @@ ghost use mathlib.Core.Path.{_≡_};
 ghost use Prim.Native.Nat.{_+_, _^_, _≤_};
 ghost use lib.ListN.{length};
 ghost use Rattle.fitness.specs.Decides.{Decides};
-ghost use Rattle.fitness.specs.Inside.Decoded.{processes, instructions, tableOf};
-ghost use Rattle.fitness.specs.Inside.Parts.{Within, Few, Rows, Used, Unused};
+ghost use Rattle.layout.proofs.Tables.{decodeTable};
+ghost use Rattle.fitness.specs.Inside.Parts.{processes, instructions, Within, Few, Rows, Used, Unused};
 
 // Whether the words from one place up to another are at most top.
 pub fn within(words: &[u64], from: usize, upto: usize, top: u64) -> bool
@@ -105,7 +105,7 @@ pub fn unused(words: &[u64]) -> bool
 // Whether the processes' instructions follow one another without gap and cover all.
 pub fn ends(words: &[u64]) -> bool
     requires { ⌜ Few (now words) ⌝ }
-    ensures { λ r. ⌜ Decides r (Rows (tableOf (now (words .entry))) (processes (now (words .entry))) (instructions (now (words .entry)))) ⌝ }
+    ensures { λ r. ⌜ Decides r (Rows (decodeTable (now (words .entry))) (processes (now (words .entry))) (instructions (now (words .entry)))) ⌝ }
 {
     let processes = words[1] as usize;
     let mut from: u64 = 0;

@@ -5,8 +5,18 @@ use mathlib.Core.List.{List}
 use lib.ListN.{length, getD}
 use Rattle.table.specs.Table.{Table, begins}
 use Rattle.table.specs.Fit.{Sound}
-use Rattle.fitness.specs.Inside.Decoded.{signals, processes, instructions, tableOf}
+use Rattle.layout.specs.TableWords.{signalsAt, processesAt, instructionsAt}
+use Rattle.layout.proofs.Tables.{decodeTable}
 use Rattle.fitness.specs.Inside.Kinds.{Legals}
+
+abbrev pub signals : List ℕ → ℕ
+signals words = getD words signalsAt 0
+
+abbrev pub processes : List ℕ → ℕ
+processes words = getD words processesAt 0
+
+abbrev pub instructions : List ℕ → ℕ
+instructions words = getD words instructionsAt 0
 
 -- the words from one place up to another are at most top
 abbrev pub Within : List ℕ → ℕ → ℕ → ℕ → Type 0
@@ -50,5 +60,5 @@ Sounds t n = (p : ℕ) → p < n → Sound (t .code) (begins t p) (begins t (suc
 -- what is known of words before their operands and drivers are looked at
 pub record Ready (words : List ℕ) : Type 0 where
   pub few : Few words
-  pub rows : Rows (tableOf words) (processes words) (instructions words)
+  pub rows : Rows (decodeTable words) (processes words) (instructions words)
   pub legal : Legals words (signals words) (instructions words)

@@ -5,7 +5,8 @@ use mathlib.Core.Path.{_≡_, sym, subst, _∙_}
 use borrow.Author.Tests.{eqb-true, not-true, not-false}
 use borrow.Author.Needs.{needs}
 use native.Mathlib.Omega.{arith}
-use Rattle.fitness.specs.Inside.Decoded.{tableOf, processes, instructions}
+use Rattle.layout.proofs.Tables.{decodeTable}
+use Rattle.fitness.specs.Inside.Parts.{processes, instructions}
 use Rattle.fitness.specs.Inside.Drivers.{Owned}
 use Rattle.fitness.proofs.Deciding.{differ}
 use Rattle.fitness.proofs.Kind.{legal-signal}
@@ -15,7 +16,7 @@ use Rattle.fitness.proofs.drivers.drives.Statement.{statement}
 use Rattle.fitness.proofs.drivers.drives.Tie as tie
 
 abbrev Inv-loop : tie.InvT-loop
-Inv-loop words own₀ p from upto driver x₀ own x = (from ≤ x) × (x ≤ upto) × (upto ≤ instructions words) × Owned (tableOf words) (processes words) x own
+Inv-loop words own₀ p from upto driver x₀ own x = (from ≤ x) × (x ≤ upto) × (upto ≤ instructions words) × Owned (decodeTable words) (processes words) x own
 
 abbrev μ-loop : tie.MeasureT-loop
 μ-loop words own₀ p from upto driver x₀ own x = upto - x
@@ -25,7 +26,7 @@ add-driver c = omega (arith, c .before .before .pre .0 .few .fewProcesses)
 
 loop-holds : tie.Need-loop-holds Inv-loop μ-loop
 loop-holds c =
-    let q = rows-low (tableOf (c .before .before .args .words .now)) (processes (c .before .before .args .words .now)) (instructions (c .before .before .args .words .now)) (c .before .before .pre .0 .rows) (c .before .before .args .p) (c .before .before .pre .1 .0) in
+    let q = rows-low (decodeTable (c .before .before .args .words .now)) (processes (c .before .before .args .words .now)) (instructions (c .before .before .args .words .now)) (c .before .before .pre .0 .rows) (c .before .before .args .p) (c .before .before .pre .1 .0) in
     (omega arith, omega arith, omega arith, c .before .before .pre .1 .1 .1 .1)
 
 add-operation : tie.Need-add-operation Inv-loop μ-loop
@@ -52,7 +53,7 @@ same-length c = c .before .before .before .put .ensures .long ∙ c .before .bef
 returns : tie.Need-returns Inv-loop μ-loop
 returns c = record {
   holds = λ z. differ (sym z);
-  fails = λ z. own-bad (tableOf (c .before .before .before .before .before .before .before .before .before .before .args .words .now)) (processes (c .before .before .before .before .before .before .before .before .before .before .args .words .now)) (instructions (c .before .before .before .before .before .before .before .before .before .before .args .words .now)) (c .before .before .before .before .before .before .before .before .before .before .args .p) (c .before .before .before .before .before .before .before .loop .x) (c .before .before .before .before .before .before .before .loop .own) (c .before .before .before .put .last .1 .0) _ _ (c .before .before .before .put .result) (c .before .before .before .before .before .before .before .loop .inv .3)
+  fails = λ z. own-bad (decodeTable (c .before .before .before .before .before .before .before .before .before .before .args .words .now)) (processes (c .before .before .before .before .before .before .before .before .before .before .args .words .now)) (instructions (c .before .before .before .before .before .before .before .before .before .before .args .words .now)) (c .before .before .before .before .before .before .before .before .before .before .args .p) (c .before .before .before .before .before .before .before .loop .x) (c .before .before .before .before .before .before .before .loop .own) (c .before .before .before .put .last .1 .0) _ _ (c .before .before .before .put .result) (c .before .before .before .before .before .before .before .loop .inv .3)
       (c .before .before .before .before .before .before .before .before .before .before .pre .0 .rows) (c .before .before .before .before .before .before .before .before .before .before .pre .1 .0) (omega arith) (omega arith) (kind-at (c .before .before .before .before .before .before .before .before .before .before .args .words .now) (c .before .before .before .before .before .before .before .before .before .before .pre .0) (c .before .before .before .before .before .before .before .loop .x) (omega arith)) (c .before .before .before .put .ensures) (not-true _ (c .if1 .taken));
 }
 
@@ -67,7 +68,7 @@ loop-again c = (
   omega arith,
   omega arith,
   omega arith,
-  own-more (tableOf (c .before .before .before .before .before .before .before .before .before .before .args .words .now)) (processes (c .before .before .before .before .before .before .before .before .before .before .args .words .now)) (instructions (c .before .before .before .before .before .before .before .before .before .before .args .words .now)) (c .before .before .before .before .before .before .before .before .before .before .args .p) (c .before .before .before .before .before .before .before .loop .x) (c .before .before .before .before .before .before .before .loop .own) (c .before .before .before .put .last .1 .0) _ _ (c .before .before .before .put .result) (c .before .before .before .before .before .before .before .loop .inv .3)
+  own-more (decodeTable (c .before .before .before .before .before .before .before .before .before .before .args .words .now)) (processes (c .before .before .before .before .before .before .before .before .before .before .args .words .now)) (instructions (c .before .before .before .before .before .before .before .before .before .before .args .words .now)) (c .before .before .before .before .before .before .before .before .before .before .args .p) (c .before .before .before .before .before .before .before .loop .x) (c .before .before .before .before .before .before .before .loop .own) (c .before .before .before .put .last .1 .0) _ _ (c .before .before .before .put .result) (c .before .before .before .before .before .before .before .loop .inv .3)
       (c .before .before .before .before .before .before .before .before .before .before .pre .0 .rows) (c .before .before .before .before .before .before .before .before .before .before .pre .1 .0) (omega arith) (omega arith) (kind-at (c .before .before .before .before .before .before .before .before .before .before .args .words .now) (c .before .before .before .before .before .before .before .before .before .before .pre .0) (c .before .before .before .before .before .before .before .loop .x) (omega arith)) (c .before .before .before .put .ensures) (not-false _ (c .if1 .left)),
 )
 
@@ -78,7 +79,7 @@ returns-2 : tie.Need-returns-2 Inv-loop μ-loop
 returns-2 c =
     let q : c .before .loop .x ≡ c .before .before .before .before .args .upto = omega arith in
     record {
-      holds = λ z. subst (λ x. Owned (tableOf (c .before .before .before .before .args .words .now)) (processes (c .before .before .before .before .args .words .now)) x (c .before .loop .own)) q (c .before .loop .inv .3);
+      holds = λ z. subst (λ x. Owned (decodeTable (c .before .before .before .before .args .words .now)) (processes (c .before .before .before .before .args .words .now)) x (c .before .loop .own)) q (c .before .loop .inv .3);
       fails = λ z. differ z;
     }
 

@@ -6,7 +6,8 @@ use borrow.Author.Tests.{not-true, not-false}
 use borrow.Author.Needs.{needs}
 use native.Mathlib.Omega.{arith}
 use Rattle.table.specs.Table.{begins}
-use Rattle.fitness.specs.Inside.Decoded.{tableOf, processes, instructions}
+use Rattle.layout.proofs.Tables.{decodeTable}
+use Rattle.fitness.specs.Inside.Parts.{processes, instructions}
 use Rattle.fitness.specs.Inside.Drivers.{Owned}
 use Rattle.fitness.proofs.Deciding.{differ}
 use Rattle.fitness.proofs.Reading.{begins-word, begins-next}
@@ -15,7 +16,7 @@ use Rattle.fitness.proofs.drivers.owners.Statement.{statement}
 use Rattle.fitness.proofs.drivers.owners.Tie as tie
 
 abbrev Inv-loop : tie.InvT-loop
-Inv-loop words own₀ processes from₀ p₀ own from p = (p ≤ processes) × (from ≡ begins (tableOf words) p) × Owned (tableOf words) processes from own
+Inv-loop words own₀ processes from₀ p₀ own from p = (p ≤ processes) × (from ≡ begins (decodeTable words) p) × Owned (decodeTable words) processes from own
 
 abbrev μ-loop : tie.MeasureT-loop
 μ-loop words own₀ processes from₀ p₀ own from p = processes - p
@@ -27,7 +28,7 @@ cast-processes : tie.Need-cast-processes Inv-loop μ-loop
 cast-processes c = omega (arith, c .before .before .before .pre .0 .few .fewProcesses)
 
 loop-holds : tie.Need-loop-holds Inv-loop μ-loop
-loop-holds c = (omega arith, refl, subst (λ own. Owned (tableOf (c .before .before .before .args .words .now)) (processes (c .before .before .before .args .words .now)) 0 own) (sym (c .before .before .before .pre .1)) (own-none (tableOf (c .before .before .before .args .words .now)) (processes (c .before .before .before .args .words .now))))
+loop-holds c = (omega arith, refl, subst (λ own. Owned (decodeTable (c .before .before .before .args .words .now)) (processes (c .before .before .before .args .words .now)) 0 own) (sym (c .before .before .before .pre .1)) (own-none (decodeTable (c .before .before .before .args .words .now)) (processes (c .before .before .before .args .words .now))))
 
 cast-at : tie.Need-cast-at Inv-loop μ-loop
 cast-at c = omega (arith, c .before .before .before .before .before .pre .0 .few .fewProcesses)
@@ -65,9 +66,9 @@ same-length-2 c = search needs
 returns-2 : tie.Need-returns-2 Inv-loop μ-loop
 returns-2 c =
     let q : c .before .loop .p ≡ processes (c .before .before .before .before .before .args .words .now) = omega arith in
-    let e : c .before .loop .from ≡ instructions (c .before .before .before .before .before .args .words .now) = c .before .loop .inv .1 ∙ ap (begins (tableOf (c .before .before .before .before .before .args .words .now))) q ∙ c .before .before .before .before .before .pre .0 .rows .cover in
+    let e : c .before .loop .from ≡ instructions (c .before .before .before .before .before .args .words .now) = c .before .loop .inv .1 ∙ ap (begins (decodeTable (c .before .before .before .before .before .args .words .now))) q ∙ c .before .before .before .before .before .pre .0 .rows .cover in
     record {
-      holds = λ z. subst (λ x. Owned (tableOf (c .before .before .before .before .before .args .words .now)) (processes (c .before .before .before .before .before .args .words .now)) x (c .before .loop .own)) e (c .before .loop .inv .2);
+      holds = λ z. subst (λ x. Owned (decodeTable (c .before .before .before .before .before .args .words .now)) (processes (c .before .before .before .before .before .args .words .now)) x (c .before .loop .own)) e (c .before .loop .inv .2);
       fails = λ z. differ z;
     }
 

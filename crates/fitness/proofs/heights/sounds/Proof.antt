@@ -6,7 +6,7 @@ use borrow.Author.Tests.{not-true, not-false}
 use borrow.Author.Needs.{needs}
 use native.Mathlib.Omega.{arith}
 use Rattle.table.specs.Table.{begins}
-use Rattle.fitness.specs.Inside.Decoded.{tableOf}
+use Rattle.layout.proofs.Tables.{decodeTable}
 use Rattle.fitness.specs.Inside.Parts.{Sounds}
 use Rattle.fitness.specs.Inside.Heights.{Fresh}
 use Rattle.fitness.proofs.Deciding.{decides-yes, decides-no}
@@ -16,7 +16,7 @@ use Rattle.fitness.proofs.heights.sounds.Statement.{statement}
 use Rattle.fitness.proofs.heights.sounds.Tie as tie
 
 abbrev Inv-loop : tie.InvT-loop
-Inv-loop words processes hs₀ from₀ p₀ hs from p = (p ≤ processes) × (from ≡ begins (tableOf words) p) × Fresh from hs × Sounds (tableOf words) p
+Inv-loop words processes hs₀ from₀ p₀ hs from p = (p ≤ processes) × (from ≡ begins (decodeTable words) p) × Fresh from hs × Sounds (decodeTable words) p
 
 abbrev μ-loop : tie.MeasureT-loop
 μ-loop words processes hs₀ from₀ p₀ hs from p = processes - p
@@ -48,7 +48,7 @@ heights-requires c κs =
     (c .before .before .before .before .before .before .pre, (omega arith, (omega arith, c .before .before .before .loop .inv .2)))
 
 returns : tie.Need-returns Inv-loop μ-loop
-returns c = decides-no _ (sounds-bad (tableOf (c .before .before .before .before .before .before .before .before .before .args .words .now)) (c .before .before .before .before .before .before .loop .p) (c .before .before .before .before .before .before .loop .from) _ (c .before .before .heights .last .1 .0) (c .before .before .heights .result) (c .before .before .before .before .before .before .loop .inv .1)
+returns c = decides-no _ (sounds-bad (decodeTable (c .before .before .before .before .before .before .before .before .before .args .words .now)) (c .before .before .before .before .before .before .loop .p) (c .before .before .before .before .before .before .loop .from) _ (c .before .before .heights .last .1 .0) (c .before .before .heights .result) (c .before .before .before .before .before .before .loop .inv .1)
     (sym (begins-word (c .before .before .before .before .before .before .before .before .before .args .words .now) (c .before .before .before .before .before .before .loop .p) (c .before .before .before .before .before .loop-test .taken))) (c .before .before .heights .ensures) _ (c .before .before .before .before .before .loop-test .taken) (not-true _ (c .if1 .taken)))
 
 add-p : tie.Need-add-p Inv-loop μ-loop
@@ -62,7 +62,7 @@ loop-again c = (
   omega arith,
   begins-next (c .before .before .before .before .before .before .before .before .before .args .words .now) (c .before .before .before .before .before .before .loop .p) (c .before .before .before .before .before .loop-test .taken),
   c .before .before .heights .ensures .fresh (not-false _ (c .if1 .left)),
-  sounds-more (tableOf (c .before .before .before .before .before .before .before .before .before .args .words .now)) (c .before .before .before .before .before .before .loop .p) (c .before .before .before .before .before .before .loop .from) _ (c .before .before .heights .last .1 .0) (c .before .before .heights .result) (c .before .before .before .before .before .before .loop .inv .1)
+  sounds-more (decodeTable (c .before .before .before .before .before .before .before .before .before .args .words .now)) (c .before .before .before .before .before .before .loop .p) (c .before .before .before .before .before .before .loop .from) _ (c .before .before .heights .last .1 .0) (c .before .before .heights .result) (c .before .before .before .before .before .before .loop .inv .1)
       (sym (begins-word (c .before .before .before .before .before .before .before .before .before .args .words .now) (c .before .before .before .before .before .before .loop .p) (c .before .before .before .before .before .loop-test .taken))) (c .before .before .heights .ensures) (not-false _ (c .if1 .left)) (c .before .before .before .before .before .before .loop .inv .3),
 )
 

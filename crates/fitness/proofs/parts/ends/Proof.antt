@@ -5,14 +5,15 @@ use mathlib.Core.Path.{_≡_, refl, sym}
 use borrow.Author.Needs.{needs}
 use native.Mathlib.Omega.{arith}
 use Rattle.table.specs.Table.{begins}
-use Rattle.fitness.specs.Inside.Decoded.{tableOf, processes, instructions}
+use Rattle.layout.proofs.Tables.{decodeTable}
+use Rattle.fitness.specs.Inside.Parts.{processes, instructions}
 use Rattle.fitness.proofs.Deciding.{decides-no}
 use Rattle.fitness.proofs.Reading.{RisingTo, begins-next, ends-bad, ends-more, ends-done}
 use Rattle.fitness.proofs.parts.ends.Statement.{statement}
 use Rattle.fitness.proofs.parts.ends.Tie as tie
 
 abbrev Inv-loop : tie.InvT-loop
-Inv-loop words processes from₀ p₀ from p = (p ≤ processes) × (from ≡ begins (tableOf words) p) × RisingTo (tableOf words) p
+Inv-loop words processes from₀ p₀ from p = (p ≤ processes) × (from ≡ begins (decodeTable words) p) × RisingTo (decodeTable words) p
 
 abbrev μ-loop : tie.MeasureT-loop
 μ-loop words processes from₀ p₀ from p = processes - p
@@ -48,7 +49,7 @@ shared-slice-read-result : tie.Need-shared-slice-read-result Inv-loop μ-loop
 shared-slice-read-result c = search needs
 
 returns-2 : tie.Need-returns-2 Inv-loop μ-loop
-returns-2 c = ends-done (tableOf (c .before .before .before .before .args .words .now)) (processes (c .before .before .before .before .args .words .now)) (instructions (c .before .before .before .before .args .words .now)) (c .before .before .loop .p) (c .before .before .loop .from) (omega arith) (c .before .before .loop .inv .1) (c .before .before .loop .inv .2)
+returns-2 c = ends-done (decodeTable (c .before .before .before .before .args .words .now)) (processes (c .before .before .before .before .args .words .now)) (instructions (c .before .before .before .before .args .words .now)) (c .before .before .loop .p) (c .before .before .loop .from) (omega arith) (c .before .before .loop .inv .1) (c .before .before .loop .inv .2)
 
 pub ends-spec : {M : Type 1} → statement M
 ends-spec =
