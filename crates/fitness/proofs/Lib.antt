@@ -5,3 +5,4 @@ pub mod Reading
 pub mod Kind
 pub mod Passes
 pub mod Owners
+pub mod Whole

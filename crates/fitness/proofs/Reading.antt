@@ -78,21 +78,6 @@ module _ (t : Table) (n m : ℕ) where
       (λ g. ⊎-elim (λ l. absurd (row-once r q p i b a l qh pl)) (λ l. omega arith) (side q p))
       (side p q)
 
-pub record Row (t : Table) (n x : ℕ) : Type 0 where
-  pub process : ℕ
-  pub exists : process < n
-  pub behind : begins t process ≤ x
-  pub before : x < begins t (suc process)
-
--- and in one at least
-pub row-of : (t : Table) (n x : ℕ) → x < begins t n → Row t n x
-row-of t zero x h = absurd (omega arith)
-row-of t (suc n) x h =
-    ⊎-elim
-    (λ l. let r = row-of t n x l in record { process = r .process; exists = omega (arith, r .exists); behind = r .behind; before = r .before })
-    (λ l. record { process = n; exists = omega arith; behind = l; before = h })
-    (side x (begins t n))
-
 abbrev pub RisingTo : Table → ℕ → Type 0
 RisingTo t p = (q : ℕ) → q < p → begins t q ≤ begins t (suc q)
 
