@@ -25,13 +25,13 @@ use Rattle.fitness.proofs.Reading.{count-signals, count-listeners, coun
 use Rattle.fitness.proofs.Owners.{drives-posts, posts-drives}
 
 -- unused places of a column, by their number and by their place
-zero-part : (w : List ℕ) (base n m : ℕ) → ((k : ℕ) → n ≤ k → k < m → getD w (base + k) 0 ≡ 0) → Within w (base + n) (base + m) 0
+pub zero-part : (w : List ℕ) (base n m : ℕ) → ((k : ℕ) → n ≤ k → k < m → getD w (base + k) 0 ≡ 0) → Within w (base + n) (base + m) 0
 zero-part w base n m h j lo hi =
     let q : base + (j - base) ≡ j = omega arith in
     let z = subst (λ i. getD w i 0 ≡ 0) q (h (j - base) (omega arith) (omega arith)) in
     omega arith
 
-part-zero : (w : List ℕ) (base n m : ℕ) → Within w (base + n) (base + m) 0 → (k : ℕ) → n ≤ k → k < m → getD w (base + k) 0 ≡ 0
+pub part-zero : (w : List ℕ) (base n m : ℕ) → Within w (base + n) (base + m) 0 → (k : ℕ) → n ≤ k → k < m → getD w (base + k) 0 ≡ 0
 part-zero w base n m z k lo hi = omega (arith, z (base + k) (omega arith) (omega arith))
 
 -- the words of an instruction of a fit table are legal
@@ -60,7 +60,7 @@ module _ (w : List ℕ) (words-fit : FitTableWords w) where
   plain : PlainTable w
   plain = fit-plain-table w words-fit .0
 
-  fits : FitTable (decodeTable w)
+  pub fits : FitTable (decodeTable w)
   fits = fit-plain-table w words-fit .1
 
   pub fit-few : Few w
@@ -105,6 +105,9 @@ module _ (w : List ℕ) (words-fit : FitTableWords w) where
       let i = at (decodeTable w .code) x in
       rw (operation-at w (decodeTable w) h fits x m, delay-at w (decodeTable w) h fits x m)
       (legal-of (signals w) i (subst (λ n. Exists n i) (count-signals w) (fits .exists x m)) (words-small (decodeTable w) fits x m .0))
+
+  pub fit-ready : Ready w
+  fit-ready = record { few = fit-few; rows = fit-rows; legal = fit-legals }
 
   pub fit-sounds : Sounds (decodeTable w) (processes w)
   fit-sounds p l = fits .sound p (omega (arith, count-processes w))
