@@ -59,7 +59,7 @@ exist-all n [] h = tt
 exist-all n (i ∷ is) h = (h 0 (omega arith), exist-all n is (λ k l. h (suc k) (omega arith)))
 
 -- what one of them drives is driven
-driven-by : (f : ℕ → Runner) (i n p k : ℕ) → i ≤ p → p < i + n → (f p .drives) k ≡ true → driven (tabulate f i n) k ≡ true
+pub driven-by : (f : ℕ → Runner) (i n p k : ℕ) → i ≤ p → p < i + n → (f p .drives) k ≡ true → driven (tabulate f i n) k ≡ true
 unfolding tabulate driven
 driven-by f i zero p k lo hi h = absurd (omega arith)
 driven-by f i (suc n) p k lo hi h =

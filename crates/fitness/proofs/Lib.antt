@@ -1,0 +1,8 @@
+-- Why the tests of fitness decide what they say.
+pub mod Deciding
+pub mod Ranges
+pub mod Reading
+pub mod Kind
+pub mod Passes
+pub mod Owners
+pub mod Whole
