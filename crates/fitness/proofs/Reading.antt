@@ -11,7 +11,8 @@ use borrow.Author.Tests.{eqb-true, eqb-false}
 use Rattle.table.specs.Instructions.{negation}
 use Rattle.table.specs.Table.{Table, begins, tabulate}
 use Rattle.table.specs.Fit.{at}
-use Rattle.table.proofs.Tabulated.{side, length-tabulate, at-tabulate}
+use Rattle.table.proofs.Outcomes.{side}
+use Rattle.table.proofs.Tabulated.{length-tabulate, at-tabulate}
 use Rattle.fitness.specs.Decides.{Decides}
 use Rattle.layout.proofs.TableLaws.{instructionAt}
 use Rattle.layout.proofs.Tables.{decodeTable}

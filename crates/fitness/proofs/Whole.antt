@@ -11,7 +11,7 @@ use Rattle.syntax.specs.Circuit.{AND, OR, NAND, NOR, XOR, XNOR}
 use Rattle.table.specs.Instructions.{Instruction, name, literal, negation, binary, assignment, test, skip}
 use Rattle.table.specs.Table.{Table, begins}
 use Rattle.table.specs.Fit.{at, Exists, FitTable}
-use Rattle.table.proofs.Tabulated.{side}
+use Rattle.table.proofs.Outcomes.{side}
 use Rattle.layout.specs.TableWords.{operationWord, delayWord, HoldsTable, FitTableWords}
 use Rattle.layout.proofs.Columns.{in-part}
 use Rattle.layout.proofs.TableLaws.{instructionAt, words-small, operation-at, delay-at}

@@ -14,7 +14,8 @@ use Rattle.rules.specs.Pending.{Change}
 use Rattle.rules.specs.Session.{Session, Each, Rising, driven, FitSession}
 use Rattle.table.specs.Table.{Table, tabulate, runners}
 use Rattle.table.specs.Fit.{FitTable}
-use Rattle.table.proofs.Tabulated.{side, length-tabulate}
+use Rattle.table.proofs.Outcomes.{side}
+use Rattle.table.proofs.Tabulated.{length-tabulate}
 use Rattle.layout.specs.TableWords.{HoldsTable}
 use Rattle.layout.specs.SessionWords.{HoldsSession, FitSessionWords}
 use Rattle.layout.proofs.Columns.{in-part}
