@@ -189,3 +189,7 @@ module _ {t l : List ℕ} {n : Name} where
     where
       go : (y : State) → Keeps 0 t l (fine y) → r ≡ numberOf n (y .signalNames)
       go y (keepsFine s) = number-is s n r e
+
+pub number-below : {t l : List ℕ} (n : Name) (r : ℕ) → Stands 0 t l → r ≡ numberOf n (namesFrom t l 6 (getD l 2 0)) → (r ≡ getD l 2 0 → ⊥) → r < 64
+number-below {t} {l} n r x e f =
+    omega (arith, number-most n (namesFrom t l 6 (getD l 2 0)), names-length t l 6 (getD l 2 0), x .stands .fewSignals)

@@ -2,3 +2,5 @@
 pub mod Shelves
 pub mod Keeping
 pub mod Delays
+pub mod Roles
+pub mod Judging

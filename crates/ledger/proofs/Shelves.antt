@@ -75,6 +75,17 @@ find-first t l base count n =
     let w : count - 0 ≡ count = omega arith in
     rw (z, w) (omega arith)
 
+-- by the number r, the name is among the names from base on or is not
+module _ (t l : List ℕ) (base count : ℕ) (n : Name) (r : ℕ) (e : r ≡ numberOf n (namesFrom t l base count)) where
+  pub among-answer : ltb r count ≡ isAmong n (namesFrom t l base count)
+  among-answer = rw (among-number n (namesFrom t l base count), names-length t l base count, e)
+
+  pub among-found : r < count → isAmong n (namesFrom t l base count) ≡ true
+  among-found h = sym among-answer ∙ lt-ltb r count h
+
+  pub among-missed : count ≤ r → isAmong n (namesFrom t l base count) ≡ false
+  among-missed h = sym among-answer ∙ le-ltb r count h
+
 -- WHERE OTHER WORDS CHANGE
 
 pub names-same : (t l m : List ℕ) (at n : ℕ) → ((k : ℕ) → at ≤ k → k < at + 2 * n → getD m k 0 ≡ getD l k 0) → namesFrom t m at n ≡ namesFrom t l at n
