@@ -1,6 +1,6 @@
 -- The delay of a run of digits in a unit, which may be of any length.
 -- Assumes nothing.
-use mathlib.Core.Path.{_≡_, refl, sym, ap, _∙_}
+use mathlib.Core.Path.{_≡_, refl, sym}
 use mathlib.Core.Bool.{Bool, true, false}
 use mathlib.Core.List.{List}
 use Prim.Native.Nat.{ℕ, _*_, _<_, _≤_}
@@ -16,7 +16,6 @@ use Rattle.words.specs.declared.unit.TimeUnit.{TimeUnit}
 use Rattle.words.specs.declared.unit.TimeUnit.the-variants.{Fs, Ps, Ns, Us, Ms, Sec, Min, Hr}
 use Rattle.words.specs.declared.unit.Delay.{Delay}
 use Rattle.words.specs.declared.unit.Delay.the-variants.{Femtoseconds, TooLong}
-use Rattle.words.specs.declared.integer.Amount.{Amount}
 use Rattle.words.specs.declared.integer.Amount.the-variants.{Small, Large}
 use Rattle.ledger.specs.Inside.Standing.{Lasts}
 

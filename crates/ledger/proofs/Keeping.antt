@@ -1,18 +1,18 @@
 -- When the words of a ledger stand for a judgement, and what they say then.
 -- Assumes nothing.
-use mathlib.Core.Path.{_≡_, refl, sym, ap, _∙_, subst}
-use mathlib.Core.Bool.{true, false, not, _||_}
+use mathlib.Core.Path.{_≡_, refl, ap, _∙_}
+use mathlib.Core.Bool.{true, false, not}
 use mathlib.Core.List.{List, [], _∷_}
-use Prim.Native.Nat.{ℕ, _+_, _*_, _<_, _≤_}
+use Prim.Native.Nat.{ℕ, zero, suc, _+_, _<_}
 use native.Mathlib.Omega.{arith}
 use borrow.Author.Tests.{lt-ltb, le-ltb}
 use lib.ListN.{length, getD, set, length-set}
 use lib.Seq.{getD-set-same, getD-set-other}
 use Rattle.words.specs.Token.{Name}
 use Rattle.names.specs.Roles.{Role, passes}
-use Rattle.names.specs.Judge.{State, start, Judgement, fine, refused, onward, judge, judged, isAmong, numberOf, used, undeclared}
-use Rattle.ledger.specs.Inside.Standing.{Shelf, namesFrom, usedIn, Driven, Standing, Refusing, Keeps, keepsFine, keepsRefused, Sound, Held, Judges, Numbers}
-use Rattle.ledger.proofs.Shelves.{names-length, among-number, number-most, names-same, shelf-same}
+use Rattle.names.specs.Judge.{State, start, Judgement, fine, refused, onward, judge, judged, numberOf, used, undeclared}
+use Rattle.ledger.specs.Inside.Standing.{namesFrom, usedIn, Standing, Refusing, Keeps, keepsFine, keepsRefused, Sound, Held, Judges, Numbers}
+use Rattle.ledger.proofs.Shelves.{names-length, among-number, number-most}
 
 -- JUDGEMENTS, one after the other
 
@@ -84,10 +84,24 @@ unlabelled (keepsRefused r) = keepsRefused r
 pub sound-unlabelled : {t l : List ℕ} → Sound 0 t l → Sound 1 t l
 sound-unlabelled s = record { judgement = s .judgement; keeps = unlabelled (s .keeps) }
 
--- all words zero
-pub fresh : (t l : List ℕ) → length l ≡ 328 → ((k : ℕ) → getD l k 0 ≡ 0) → Keeps 0 t l (fine start)
+-- A FRESH LEDGER
+
+abbrev pub zeros : ℕ → List ℕ
+zeros zero = []
+zeros (suc n) = 0 ∷ zeros n
+
+zeros-at : (n k : ℕ) → getD (zeros n) k 0 ≡ 0
+zeros-at zero k = refl
+zeros-at (suc n) zero = refl
+zeros-at (suc n) (suc k) = zeros-at n k
+
+zeros-length : (n : ℕ) → length (zeros n) ≡ n
+zeros-length zero = refl
+zeros-length (suc n) = ap suc (zeros-length n)
+
+all-zero : (t l : List ℕ) → length l ≡ 328 → ((k : ℕ) → getD l k 0 ≡ 0) → Keeps 0 t l (fine start)
 unfolding namesFrom
-fresh t l e f =
+all-zero t l e f =
     keepsFine {y = start} record {
       clear = f 0;
       signals = rw (f 2) record { size = e; room = omega arith; spans = λ i h. absurd (omega arith) };
@@ -102,6 +116,9 @@ fresh t l e f =
       fewInstructions = omega arith;
       drivers = λ k h. rw (f (264 + k)) record { earlierOnes = refl; lastOne = refl; known = omega arith };
     }
+
+pub fresh-keeps : (t : List ℕ) → Keeps 0 t (zeros 328) (fine start)
+fresh-keeps t = all-zero t (zeros 328) (zeros-length 328) (zeros-at 328)
 
 -- WHAT A STATE IS by the words
 

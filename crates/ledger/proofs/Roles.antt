@@ -1,24 +1,23 @@
 -- What the words of a ledger stand for after a token of each role.
 -- Assumes nothing.
 use mathlib.Core.Path.{_≡_, refl, sym, ap, _∙_, subst}
-use mathlib.Core.Bool.{Bool, true, false, not, _||_}
+use mathlib.Core.Bool.{Bool, true, false, _||_}
 use mathlib.Core.List.{List, [], _∷_, _++_}
 use Prim.Native.Nat.{ℕ, _+_, _*_, _<_, _≤_}
 use native.Mathlib.Omega.{arith}
 use native.Mathlib.Decide.{decLt, ℕ-discrete}
-use borrow.Author.Tests.{lt-ltb, le-ltb, eq-eqb, ne-eqb}
+use borrow.Author.Tests.{eq-eqb, ne-eqb}
 use lib.Dec.{eqb}
-use lib.ListN.{length, getD, set, length-set}
+use lib.ListN.{getD, set, length-set}
 use lib.Seq.{getD-set-same, getD-set-other}
-use Rattle.laws.specs.Pick.{pick, within, sameList}
+use Rattle.laws.specs.Pick.{within, sameList}
 use Rattle.laws.proofs.Ranges.{within-inside, within-below, within-above}
 use Rattle.words.specs.Token.{Name}
 use Rattle.look.specs.Inside.Looks.{nameAt}
-use Rattle.names.specs.Roles.{Role, declares, labels, listens, reads, assigns, opens, counts}
-use Rattle.names.specs.Judge.{State, fine, refused, judge, isAmong, numberOf, has, declared, labelled, opened, assigned, counted}
-use Rattle.ledger.specs.Inside.Standing.{Span, Shelf, namesFrom, added, usedIn, Driven, Standing, Judges}
+use Rattle.names.specs.Roles.{labels}
+use Rattle.names.specs.Judge.{State, isAmong, has, declared, labelled, opened, assigned, counted}
+use Rattle.ledger.specs.Inside.Standing.{Span, Shelf, namesFrom, added, Driven, Standing}
 use Rattle.ledger.proofs.Shelves.{names-same, shelf-same, among-last, added-size, added-other, added-count, added-names, added-shelf}
-use Rattle.ledger.proofs.Keeping.{signals-count, used-is, number-is, is-undeclared, is-declared}
 
 -- NAMES: one more signal, one more label
 

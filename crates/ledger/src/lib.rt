@@ -19,8 +19,8 @@ ghost use Rattle.words.specs.Integer.{valueOf};
 ghost use Rattle.words.specs.Unit.{delayOf};
 ghost use Rattle.look.specs.Inside.Looks.{part, nameAt};
 ghost use Rattle.names.specs.Roles.{Role, declares, labels, listens, reads, assigns, belongs, closes, opens, delays, counts};
-ghost use Rattle.names.specs.Judge.{State, fine, refused, judge};
-ghost use Rattle.ledger.specs.Inside.Standing.{Span, Shelf, Sound, Held, Judges, Numbers, Lasts, usedIn, nameOption};
+ghost use Rattle.names.specs.Judge.{State, start, fine, refused, judge};
+ghost use Rattle.ledger.specs.Inside.Standing.{Span, Shelf, Keeps, Sound, Held, Judges, Numbers, Lasts, usedIn, nameOption};
 
 // The words of a ledger: the first refusal and its place (0: none yet) and four counts; from the places after these on, the start and the end
 // of each signal's name and of each label, and for each signal the process that assigns it, counted from 1 (0: none yet).
@@ -41,6 +41,13 @@ pub const SIGNAL_NAMES: usize = 6;
 const LABEL_NAMES: usize = 134;
 
 const DRIVERS: usize = 264;
+
+// The ledger before the first token.
+pub fn fresh() -> [u64; 328]
+    ensures { λ r. ⌜ ((text : List ℕ) → Keeps 0 text r (fine start)) ⌝ }
+{
+    [0u64; 328]
+}
 
 // The name is that of a signal or a label.
 fn is_used(text: &[u8], ledger: &[u64; 328], start: usize, end: usize) -> bool

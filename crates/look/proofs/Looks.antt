@@ -1,14 +1,12 @@
 -- A look at a place of a text sees the first of the tokens that follow, and leaves the others.
 -- Assumes nothing.
 use mathlib.Core.Path.{_≡_, refl, sym, ap, _∙_, subst}
-use mathlib.Core.Bool.{Bool, true, false}
 use mathlib.Core.List.{List, [], _∷_, _++_, map}
 use Prim.Native.Nat.{ℕ, zero, suc, _+_, _-_, _<_, _≤_}
 use native.Mathlib.Omega.{arith}
-use native.Mathlib.Nat.{le-refl, add-assoc}
 use lib.ListN.{length, getD, drop, take}
 use lib.Seq.{drop-drop}
-use Rattle.laws.specs.Pick.{pick, sameList}
+use Rattle.laws.specs.Pick.{sameList}
 use Rattle.laws.specs.Text.{bytes}
 use Rattle.laws.proofs.Picks.{pick-both}
 use Rattle.words.specs.Token.{Token, name, integer, foreign, fixed, OPEN, CLOSE, COMMA, COLON, SEMICOLON, ARROW, BECOMES}
@@ -22,7 +20,7 @@ use Rattle.lexis.specs.declared.token.Scan.the-variants.{Token as scanned, End,
 use Rattle.lexis.proofs.Bounds.{rest-within}
 use Rattle.lexis.proofs.Scans.{tokensAt, tokens-token, tokens-end, made-refused}
 use Rattle.look.specs.declared.Look.{Look}
-use Rattle.look.specs.Inside.Looks.{part, kindOf, finish, lookFrom, lookOf, kinds, tokenOfKind, tokenOfLook}
+use Rattle.look.specs.Inside.Looks.{part, kindOf, lookFrom, lookOf, tokenOfKind, tokenOfLook}
 
 -- THE TOKEN OF A NUMBER is the scan's
 

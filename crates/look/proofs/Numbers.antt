@@ -2,8 +2,8 @@
 -- Assumes nothing.
 use mathlib.Core.Path.{_≡_, refl, sym, ap, _∙_, subst}
 use mathlib.Core.Bool.{Bool, true, false, _||_}
-use mathlib.Core.Option.{Option, none, some}
-use mathlib.Core.List.{List, [], _∷_, map}
+use mathlib.Core.Option.{none, some}
+use mathlib.Core.List.{List, [], _∷_}
 use Prim.Native.Nat.{ℕ, zero, suc, _+_, _-_, _<_, _≤_}
 use native.Mathlib.Omega.{arith}
 use native.Mathlib.Decide.{decLt}
@@ -20,8 +20,7 @@ use Rattle.words.specs.declared.unit.TimeUnit.the-variants.{Fs, Ps, Ns, Us, Ms,
 use Rattle.words.specs.Token.{Once, NAND, NOR, Chain, AND, OR, XOR, XNOR, Fixed}
 use Rattle.words.specs.Token.{ENTITY, IS, END, ARCHITECTURE, OF, SIGNAL, BEGIN, BOOLEAN, PROCESS, TRANSPORT, AFTER, IF, THEN, ELSE, NULL, NOT, OPEN, CLOSE, COMMA, COLON, SEMICOLON, ARROW, BECOMES}
 use Rattle.words.specs.Token.{Token, name, integer, literal, once, chain, unit, fixed, foreign}
-use Rattle.syntax.proofs.Machine.{Step}
-use Rattle.syntax.proofs.Rows.{Kind, anyName, anyInteger, anyLiteral, anyOnce, anyChain, anyUnit, theChain, theFixed, Content, tokenOf, Fits, fits, Symbol, Value, Row, row, find, rows, next}
+use Rattle.syntax.proofs.Rows.{Kind, anyName, anyInteger, anyLiteral, anyOnce, anyChain, anyUnit, theChain, theFixed, Content, tokenOf, Fits, fits, Symbol, Row, row, find, rows, next}
 use Rattle.look.specs.Inside.Looks.{kinds, tokenOfKind, onceOf, chainOf, literalOf, unitOf}
 
 -- THE NUMBER OF A TOKEN

@@ -2,7 +2,6 @@
 -- Assumes nothing.
 use mathlib.Core.Path.{refl}
 use native.Mathlib.Omega.{arith}
-use borrow.Author.Needs.{needs}
 use Rattle.names.specs.Roles.{belongs}
 use Rattle.look.specs.Inside.Looks.{nameAt}
 use Rattle.ledger.proofs.belong.Statement.{statement}

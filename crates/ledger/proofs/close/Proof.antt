@@ -1,7 +1,6 @@
 -- `ledger::close` meets its contract: a process without a label has no name that another could be the same as.
 -- Assumes nothing.
 use native.Mathlib.Omega.{arith}
-use borrow.Author.Needs.{needs}
 use Rattle.names.specs.Roles.{closes}
 use Rattle.look.specs.Inside.Looks.{nameAt}
 use Rattle.ledger.specs.Inside.Standing.{nameOption}

@@ -1,7 +1,6 @@
 -- `ledger::delay` meets its contract.
 -- Assumes nothing.
-use mathlib.Core.Path.{_≡_, refl, sym, ap, _∙_}
-use native.Mathlib.Omega.{arith}
+use mathlib.Core.Path.{sym, _∙_}
 use borrow.Author.Needs.{needs}
 use Rattle.words.specs.Integer.{valueOf}
 use Rattle.look.specs.Inside.Looks.{part}

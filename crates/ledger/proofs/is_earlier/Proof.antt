@@ -1,6 +1,5 @@
 -- `ledger::is_earlier` meets its contract: test by test.
 -- Assumes nothing.
-use mathlib.Core.Path.{_≡_, refl}
 use borrow.Author.Tests.{le-leb, lt-leb}
 use Rattle.ledger.proofs.is_earlier.Statement.{statement}
 use Rattle.ledger.proofs.is_earlier.Tie as tie

@@ -1,7 +1,5 @@
 -- `ledger::is_used` meets its contract: among the signals, or else among the labels.
 -- Assumes nothing.
-use mathlib.Core.Path.{_≡_, refl, sym, ap, _∙_}
-use native.Mathlib.Omega.{arith}
 use borrow.Author.Needs.{needs}
 use lib.ListN.{getD}
 use Rattle.look.specs.Inside.Looks.{nameAt}

@@ -1,7 +1,6 @@
 -- `ledger::listen` meets its contract.
 -- Assumes nothing.
 use mathlib.Core.Path.{refl}
-use native.Mathlib.Omega.{arith}
 use borrow.Author.Needs.{needs}
 use Rattle.names.specs.Roles.{listens}
 use Rattle.look.specs.Inside.Looks.{nameAt}

@@ -1,6 +1,6 @@
 -- `ledger::time_of` meets its contract: an amount above 10^18 is too long in every unit.
 -- Assumes nothing.
-use mathlib.Core.Path.{_≡_, refl, sym, ap, _∙_}
+use mathlib.Core.Path.{sym, _∙_}
 use borrow.Author.Needs.{needs}
 use Rattle.ledger.proofs.Delays.{small-amount, large-amount}
 use Rattle.ledger.proofs.time_of.Statement.{statement}

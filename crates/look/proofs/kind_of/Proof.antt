@@ -1,6 +1,6 @@
 -- `look::kind_of` meets its contract: kind by kind.
 -- Assumes nothing.
-use mathlib.Core.Path.{_≡_, refl, _∙_}
+use mathlib.Core.Path.{_∙_}
 use borrow.Author.Needs.{needs}
 use Rattle.look.proofs.kind_of.Statement.{statement}
 use Rattle.look.proofs.kind_of.Tie as tie

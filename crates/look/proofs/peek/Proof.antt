@@ -1,11 +1,11 @@
 -- `look::peek` meets its contract: the scan of the text from place at on, with its places in the text.
 -- Assumes nothing.
-use mathlib.Core.Path.{_≡_, refl, sym, ap, _∙_}
+use mathlib.Core.Path.{sym, ap, _∙_}
 use native.Mathlib.Omega.{arith}
 use borrow.Author.Needs.{needs}
 use Rattle.laws.proofs.Lists.{rest}
 use Rattle.lexis.specs.Token.{scanOf}
-use Rattle.lexis.specs.declared.token.Scan.the-variants.{Token as scanned, End, Refused}
+use Rattle.lexis.specs.declared.token.Scan.the-variants.{Token as scanned}
 use Rattle.lexis.proofs.Bounds.{rest-within}
 use Rattle.look.specs.Inside.Looks.{lookOf}
 use Rattle.look.proofs.peek.Statement.{statement}

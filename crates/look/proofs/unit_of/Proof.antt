@@ -1,6 +1,6 @@
 -- `look::unit_of` meets its contract: number by number.
 -- Assumes nothing.
-use mathlib.Core.Path.{_≡_, refl}
+use mathlib.Core.Path.{_≡_}
 use Prim.Native.Nat.{ℕ, suc, _≤_}
 use native.Mathlib.Omega.{arith}
 use Rattle.look.proofs.unit_of.Statement.{statement}
