@@ -99,18 +99,22 @@ fit-at-5 = record {
     later zero = (omega arith, (omega arith, tt))
     later (suc zero) = tt
     later (suc (suc k)) = tt
+
     near : (k : ℕ) → Each (λ c. c .time ≤ 5 + longest) (getD (twoRising ∷ [] ∷ []) k [])
     near zero = (omega arith, (omega arith, tt))
     near (suc zero) = tt
     near (suc (suc k)) = tt
+
     few : (k : ℕ) → length (getD (twoRising ∷ [] ∷ []) k []) ≤ mostPending
     few zero = omega arith
     few (suc zero) = omega arith
     few (suc (suc k)) = omega arith
+
     rising : (k : ℕ) → Rising (getD (twoRising ∷ [] ∷ []) k [])
     rising zero = ((omega arith, tt), (tt, tt))
     rising (suc zero) = tt
     rising (suc (suc k)) = tt
+
     idle : (k : ℕ) → driven (drivesFirst ∷ []) k ≡ false → getD (twoRising ∷ [] ∷ []) k [] ≡ []
     idle zero e = absurd (true≢false e)
     idle (suc zero) e = refl
