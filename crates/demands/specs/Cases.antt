@@ -27,16 +27,16 @@ headerE = bytes "$timescale 1 fs $end\n$scope module e $end\n$var wire 1 ! q $en
 abbrev started : String → (cycles steps : ℕ) → Shown
 started line cycles steps = moves (bytes "#0\n$dumpvars\n" ++ bytes line ++ bytes "\n$end\n") 0 cycles steps
 
--- P1, P2 and P3: case A up to 9,000,000, with that stop: its start, three advances, and stop reached
+-- P1, P2 and P3: case A with its stop, 10 ns: its start, three advances, and after 9,000,000 stop reached; with 9,000,000 as the stop too
 caseAWhole : Case
 caseAWhole =
-    case caseA (9000000 ∷ 9000000 ∷ 9000000 ∷ 9000000 ∷ [])
+    case caseA (10000000 ∷ 10000000 ∷ 10000000 ∷ 10000000 ∷ 9000000 ∷ [])
     (dumped (bytes "$timescale 1 fs $end\n$scope module pair $end\n$var wire 1 ! q $end\n$var wire 1 \" d $end\n$upscope $end\n$enddefinitions $end\n")
     (moves (bytes "#0\n$dumpvars\n0!\n1\"\n$end\n") 0 1 6
     ∷ moves (bytes "#3000000\n1!\n0\"\n") 3000000 2 6
     ∷ moves (bytes "#6000000\n0!\n1\"\n") 6000000 2 6
     ∷ moves (bytes "#9000000\n1!\n0\"\n") 9000000 2 6
-    ∷ reachesStop ∷ []))
+    ∷ reachesStop ∷ reachesStop ∷ []))
 
 unfoldable pub cases : List Case
 unfolding caseAWhole

@@ -4,16 +4,17 @@ use Prim.Native.Nat.{ℕ}
 use mathlib.Core.Path.{_≡_, refl}
 use mathlib.Core.Bool.{true, false}
 use mathlib.Core.List.{List, [], _∷_, _++_, map}
-use lib.ListN.{getD, replicate}
+use lib.ListN.{replicate, drop}
 use Rattle.laws.specs.Text.{bytes}
 use Rattle.syntax.specs.Circuit.{signal, negated, done, assign, Activity, Circuit}
+use Rattle.rules.specs.Sizes.{longest}
 use Rattle.rules.specs.Formulas.{value, size}
 use Rattle.rules.specs.Pending.{change, before, post, taken, kept, valuesAt, dueIn, due, leastIn, least}
 use Rattle.rules.specs.Runner.{over, joined}
 use Rattle.rules.specs.Statements.{after, steps, assigns, member, means}
 use Rattle.rules.specs.Session.{Session, anyBelow, woken}
 use Rattle.rules.specs.Dump.{variables, header, digits, decimal, all, startBytes, changed, advanceBytes}
-use Rattle.rules.specs.Calls.{refused, quiet, stopReached, moved, cycle, cycles, started, start, advance, advances, calls, written}
+use Rattle.rules.specs.Calls.{Answer, refused, quiet, stopReached, moved, cycle, cycles, started, start, advance, advances, calls, written}
 
 -- case A: q is inverted every 3 ns, and d is not q
 unfoldable pub pair : Circuit
@@ -109,7 +110,20 @@ delayed delay =
     record { wakes = 0 ∷ []; body = assign 0 (negated (signal 0)) 1000000 done }
     ∷ record { wakes = 0 ∷ []; body = assign 1 (signal 0) delay done } ∷ []
 
+-- the time of a call that moved, or the number of a refusal
+abbrev ended : Answer → ℕ × ℕ
+ended (refused number) = (number, 0)
+ended quiet = (0, 0)
+ended stopReached = (0, 0)
+ended (moved m) = (0, m .session .time)
+
+-- with 16 ns: runs on
+pub sixteen : map ended (drop 15 (calls (map means (delayed 16000000)) (false ∷ false ∷ []) (replicate 18 longest)))
+    ≡ (0, 15000000) ∷ (0, 16000000) ∷ (0, 17000000) ∷ (0, 18000000) ∷ []
+unfolding delayed calls advances start started advance least leastIn cycles cycle joined over means member after steps size value post before assigns taken kept valuesAt dueIn due woken anyBelow startBytes all advanceBytes changed decimal digits
+sixteen = refl
+
 -- with 17 ns: refused 15 at time 16 ns
-pub seventeen : getD (calls (map means (delayed 17000000)) (false ∷ false ∷ []) (replicate 16 16000000)) 16 quiet ≡ refused 15
+pub seventeen : map ended (drop 15 (calls (map means (delayed 17000000)) (false ∷ false ∷ []) (replicate 16 longest))) ≡ (0, 15000000) ∷ (15, 0) ∷ []
 unfolding delayed calls advances start started advance least leastIn cycles cycle joined over means member after steps size value post before assigns taken kept valuesAt dueIn due woken anyBelow startBytes all advanceBytes changed decimal digits
 seventeen = refl

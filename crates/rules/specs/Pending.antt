@@ -33,8 +33,8 @@ before t (c ∷ cs) = let rest = before t cs in pick (ltb (c .time) t) (c ∷ re
 -- refused 15 where it is a 17th
 unfoldable pub post : ℕ → Change → Pending → Outcome Pending
 post k c p =
-    let kept = before (c .time) (getD p k []) in
-    pick (ltb (length kept) mostPending) (gives (set p k (kept ++ (c ∷ [])))) (refuses 15)
+    let earlier = before (c .time) (getD p k []) in
+    pick (ltb (length earlier) mostPending) (gives (set p k (earlier ++ (c ∷ [])))) (refuses 15)
 
 -- CHANGES THAT ARE DUE
 

@@ -54,3 +54,8 @@ if-true = refl
 if-true-steps : steps (false ∷ []) (branch (constant true) (assign 0 (negated (signal 0)) 3000000 done) done done) ≡ 6
 unfolding steps value size
 if-true-steps = refl
+
+-- with `false` it runs the second arm, which is missing, and skips nothing: 2 steps
+if-false-steps : steps (false ∷ []) (branch (constant false) (assign 0 (negated (signal 0)) 3000000 done) done done) ≡ 2
+unfolding steps value size
+if-false-steps = refl

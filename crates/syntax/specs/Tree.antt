@@ -1,11 +1,14 @@
 -- The grammar of document 01: the tree of a design as it is written, and the tokens of a tree.
 -- What a text may leave out (`is`, a closing name, a label, `after`) is a field of the tree. Assumes nothing: these are definitions.
 use Prim.Native.Nat.{ℕ}
+use mathlib.Core.Path.{_≡_, refl}
 use mathlib.Core.Bool.{Bool, true, false}
 use mathlib.Core.Option.{Option, none, some}
 use mathlib.Core.List.{List, [], _∷_}
+use Rattle.laws.specs.Text.{bytes}
 use Rattle.words.specs.declared.unit.TimeUnit.{TimeUnit}
-use Rattle.words.specs.Token.{Name, Once, Chain, Fixed, ENTITY, IS, END, ARCHITECTURE, OF, SIGNAL, BEGIN, BOOLEAN, PROCESS, TRANSPORT, AFTER, IF, THEN, ELSE, NULL, NOT, OPEN, CLOSE, COMMA, COLON, SEMICOLON, ARROW, BECOMES}
+use Rattle.words.specs.declared.unit.TimeUnit.the-variants.{Ns}
+use Rattle.words.specs.Token.{Name, Once, NAND, Chain, AND, Fixed, ENTITY, IS, END, ARCHITECTURE, OF, SIGNAL, BEGIN, BOOLEAN, PROCESS, TRANSPORT, AFTER, IF, THEN, ELSE, NULL, NOT, OPEN, CLOSE, COMMA, COLON, SEMICOLON, ARROW, BECOMES}
 use Rattle.words.specs.Token.{Token, name, integer, literal, once, chain, unit, fixed}
 
 -- TREES
@@ -170,3 +173,32 @@ wholeText (design e w c a o ds ps w′ c′) r =
 -- and end of text
 abbrev pub designText : Design → List Token
 designText d = wholeText d []
+
+-- EXAMPLE: each part that may be missing once there and once not
+
+-- entity e is end entity e; architecture a of e is signal q, d : boolean := true; signal s : boolean; begin
+-- p : process (q, d) is begin if not q then q <= transport (q nand d) and false and q after 3 ns; else null; end if; end process p;
+-- process begin d <= transport q; end process; end;
+text-example : designText (design (bytes "e") true (some (bytes "e")) (bytes "a") (bytes "e")
+    (declaration (bytes "q") (bytes "d" ∷ []) (some true) ∷ declaration (bytes "s") [] none ∷ [])
+    (process (some (bytes "p")) (listed (bytes "q") (bytes "d" ∷ [])) true
+    (also (conditional (expression (negated (named (bytes "q"))) alone)
+    (also (assignment (bytes "q")
+    (expression (plain (bracketed (expression (plain (named (bytes "q"))) (joined NAND (plain (named (bytes "d")))))))
+    (chained AND (plain (constant false)) (more (plain (named (bytes "q"))) enough))) (after 3 Ns)) done)
+    (otherwise (also null done))) done) (some (bytes "p"))
+    ∷ process none unlisted false (also (assignment (bytes "d") (expression (plain (named (bytes "q"))) alone) immediate) done) none ∷ [])
+    false none)
+    ≡ fixed ENTITY ∷ name (bytes "e") ∷ fixed IS ∷ fixed END ∷ fixed ENTITY ∷ name (bytes "e") ∷ fixed SEMICOLON
+    ∷ fixed ARCHITECTURE ∷ name (bytes "a") ∷ fixed OF ∷ name (bytes "e") ∷ fixed IS
+    ∷ fixed SIGNAL ∷ name (bytes "q") ∷ fixed COMMA ∷ name (bytes "d") ∷ fixed COLON ∷ fixed BOOLEAN ∷ fixed BECOMES ∷ literal true ∷ fixed SEMICOLON
+    ∷ fixed SIGNAL ∷ name (bytes "s") ∷ fixed COLON ∷ fixed BOOLEAN ∷ fixed SEMICOLON ∷ fixed BEGIN
+    ∷ name (bytes "p") ∷ fixed COLON ∷ fixed PROCESS ∷ fixed OPEN ∷ name (bytes "q") ∷ fixed COMMA ∷ name (bytes "d") ∷ fixed CLOSE ∷ fixed IS ∷ fixed BEGIN
+    ∷ fixed IF ∷ fixed NOT ∷ name (bytes "q") ∷ fixed THEN
+    ∷ name (bytes "q") ∷ fixed ARROW ∷ fixed TRANSPORT ∷ fixed OPEN ∷ name (bytes "q") ∷ once NAND ∷ name (bytes "d") ∷ fixed CLOSE
+    ∷ chain AND ∷ literal false ∷ chain AND ∷ name (bytes "q") ∷ fixed AFTER ∷ integer 3 ∷ unit Ns ∷ fixed SEMICOLON
+    ∷ fixed ELSE ∷ fixed NULL ∷ fixed SEMICOLON ∷ fixed END ∷ fixed IF ∷ fixed SEMICOLON
+    ∷ fixed END ∷ fixed PROCESS ∷ name (bytes "p") ∷ fixed SEMICOLON
+    ∷ fixed PROCESS ∷ fixed BEGIN ∷ name (bytes "d") ∷ fixed ARROW ∷ fixed TRANSPORT ∷ name (bytes "q") ∷ fixed SEMICOLON ∷ fixed END ∷ fixed PROCESS ∷ fixed SEMICOLON
+    ∷ fixed END ∷ fixed SEMICOLON ∷ []
+text-example = refl
