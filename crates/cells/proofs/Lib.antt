@@ -7,3 +7,4 @@ pub mod Posting
 pub mod Taking
 pub mod Words
 pub mod Nearest
+pub mod Dues

@@ -46,6 +46,13 @@ pub record Fit (cells : List ℕ) : Type 0 where
   pub rising : (k : ℕ) → k < 64 → Rising (pendingOf cells k)
   pub unused : (k i : ℕ) → k < 64 → countOf cells k ≤ i → i < 16 → getD cells (128 + k * 16 + i) 0 ≡ 0
 
+-- cells of n signals: those of others are zero
+pub record FitFor (n : ℕ) (cells : List ℕ) : Type 0 where
+  pub few : n ≤ 64
+  pub fit : Fit cells
+  pub noValues : (k : ℕ) → n ≤ k → k < 64 → getD cells k 0 ≡ 0
+  pub noCounts : (k : ℕ) → n ≤ k → k < 64 → countOf cells k ≡ 0
+
 -- given, or refused 15
 abbrev pub told : {A : Type 0} → Bool → A → Outcome A
 told true a = gives a
