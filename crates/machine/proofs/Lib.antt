@@ -1,0 +1,3 @@
+-- What each instruction does to the operands' word, and what the loop of a run keeps.
+pub mod Stepping
+pub mod Running
