@@ -93,7 +93,7 @@ module _ (n : ℕ) (cs ds : List ℕ) (k t : ℕ) (v : Bool) (p : Posted cs k t 
     pub due-later : now < t → Due word now (pendings n ds)
     due-later h =
         record {
-          small = due .small;
+          small = rw (length-pendings n ds) (rw (length-pendings n cs) at (due .small));
           reached = reached-after (omega arith);
           tells = λ j. by j k
               (λ e. rw e
@@ -107,7 +107,7 @@ module _ (n : ℕ) (cs ds : List ℕ) (k t : ℕ) (v : Bool) (p : Posted cs k t 
     pub due-now : now ≡ t → Due (bitOr word (1 * 2 ^ k)) now (pendings n ds)
     due-now h =
         record {
-          small = or-lt 64 word (1 * 2 ^ k) (due .small) (one-below k 64 (omega arith));
+          small = rw (length-pendings n ds) (or-lt n word (1 * 2 ^ k) (rw (length-pendings n cs) at (due .small)) (one-below k n l));
           reached = reached-after (omega arith);
           tells = λ j.
               bit-or word (1 * 2 ^ k) j

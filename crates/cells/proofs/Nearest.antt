@@ -10,7 +10,6 @@ use lib.Bits.{bitOr, or-lt}
 use lib.Count.{trailingZeros}
 use lib.Dec.{eqb}
 use lib.ListN.{length, getD}
-use lib.Pow.{pow-mono}
 use borrow.Author.Tests.{eq-eqb, eqb-true}
 use Rattle.rules.specs.Pending.{Change, change, Pending, dueIn, due, Least, nothing, first, lower, leastIn, least}
 use Rattle.rules.specs.Session.{Each, Rising}
@@ -24,7 +23,7 @@ use Rattle.cells.specs.Inside.Moves.{Seen}
 use Rattle.cells.specs.declared.Coming.the-variants.{Nothing, At}
 use Rattle.cells.proofs.Tabulating.{by}
 use Rattle.cells.proofs.Waiting.{due-later, later-first, later-all}
-use Rattle.cells.proofs.Columns.{pending-at, pending-past}
+use Rattle.cells.proofs.Columns.{length-pendings, pending-at, pending-past}
 use Rattle.cells.proofs.Words.{bit-or, bit-same, bit-other, bit-above, one-below, walking-first, walking-next}
 
 -- WHAT IS DUE
@@ -44,9 +43,9 @@ module _ (word t : ℕ) (p : Pending) (d : Due word t p) where
   pub due-zero : word ≡ 0 → due t p ≡ false
   due-zero e = due-all t p (λ k. sym (d .tells k) ∙ ap (λ w. bit w k) e ∙ bit-zero k)
 
-  pub due-some : 0 < word → due t p ≡ true
-  due-some some =
-      let s = walking-next word 64 word 0 (walking-first word 64 (d .small)) (omega arith) some in
+  pub due-some : length p ≤ 64 → 0 < word → due t p ≡ true
+  due-some few some =
+      let s = walking-next word (length p) word 0 (walking-first word (length p) (d .small)) few some in
       due-any t p (0 + trailingZeros 64 word) (sym (d .tells (0 + trailingZeros 64 word)) ∙ s .set)
 
 -- THE LEAST TIME
@@ -209,7 +208,7 @@ module _ (cs : List ℕ) (n time word : ℕ) (few : n ≤ 64) (s : Seen cs n tim
   unfolding dueIn Each
   is-due =
       record {
-        small = omega (arith, s .small, pow-mono {i = n} {j = 64} few);
+        small = rw (length-pendings n cs) (s .small);
         tells = λ k. ⊎-elim
             (λ l. s .tells k l ∙ sym (ap (dueIn time) (pending-at n cs k l)))
             (λ l. bit-above n word k (s .small) l ∙ sym (ap (dueIn time) (pending-past n cs k l)))
@@ -220,4 +219,4 @@ module _ (cs : List ℕ) (n time word : ℕ) (few : n ≤ 64) (s : Seen cs n tim
   pub comes-at : (word ≡ 0 → ⊥) → ComesNext (pendings n cs) (At time word)
   comes-at ne =
       let some : 0 < word = omega arith in
-      (least-is time (pendings n cs) (due-some word time (pendings n cs) is-due some) (is-due .reached), some, is-due)
+      (least-is time (pendings n cs) (due-some word time (pendings n cs) is-due (omega (arith, length-pendings n cs)) some) (is-due .reached), some, is-due)

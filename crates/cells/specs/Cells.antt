@@ -82,7 +82,7 @@ pub record Took (cells : List ℕ) (k t : ℕ) (yes : Bool) (after : List ℕ) :
 
 -- a word with a bit for each signal that has a change at t, and no other; no change comes before t
 pub record Due (word t : ℕ) (p : Pending) : Type 0 where
-  pub small : word < 2 ^ 64
+  pub small : word < 2 ^ length p
   pub tells : (k : ℕ) → bit word k ≡ dueIn t (getD p k [])
   pub reached : (k : ℕ) → Reached t (getD p k [])
 
