@@ -1,0 +1,3 @@
+-- Bytes behind bytes, lines of signals, and the digits of a time.
+pub mod Buffers
+pub mod Rows
