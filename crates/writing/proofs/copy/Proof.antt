@@ -44,7 +44,7 @@ same-length : tie.Need-same-length Inv-loop μ-loop
 same-length c = ap length (c .before .loop .inv .1) ∙ length-sets (c .before .before .args .out .now) (c .before .before .args .at) (take (c .before .loop .i) (c .before .before .args .text .now))
 
 returns : tie.Need-returns Inv-loop μ-loop
-returns c = 
+returns c =
     let e : take (c .before .loop .i) (c .before .before .args .text .now) ≡ c .before .before .args .text .now = take-all (c .before .loop .i) (c .before .before .args .text .now) (c .loop-test .left) in
     record { bytes = c .before .loop .inv .1 ∙ ap (λ l. sets (c .before .before .args .out .now) (c .before .before .args .at) l) e; end = omega (arith, c .before .loop .inv .0, c .loop-test .left) }
 

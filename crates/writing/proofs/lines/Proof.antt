@@ -48,7 +48,7 @@ same-length : tie.Need-same-length Inv-loop μ-loop
 same-length c = writes-length (c .before .before .before .args .out .now) (c .before .before .before .args .at) (all 0 (values (c .before .loop .k) (c .before .before .before .args .cells .now))) (c .before .loop .place) (c .before .loop .out) (c .before .loop .inv .1)
 
 returns : tie.Need-returns Inv-loop μ-loop
-returns c = 
+returns c =
     let e : c .before .loop .k ≡ c .before .before .before .args .count = omega arith in
     subst (λ n. Writes (c .before .before .before .args .out .now) (c .before .before .before .args .at) (all 0 (values n (c .before .before .before .args .cells .now))) (c .before .loop .place) (c .before .loop .out)) e (c .before .loop .inv .1)
 
