@@ -14,8 +14,8 @@ use borrow.Author.Tests.{eq-eqb, eqb-true}
 use Rattle.rules.specs.Pending.{Change, change, Pending, dueIn, due, Least, nothing, first, lower, leastIn, least}
 use Rattle.rules.specs.Session.{Each, Rising}
 use Rattle.table.specs.Table.{bit, tabulate}
-use Rattle.table.proofs.Tabulated.{bit-zero, side}
-use Rattle.table.proofs.Outcomes.{split}
+use Rattle.table.proofs.Tabulated.{bit-zero}
+use Rattle.table.proofs.Outcomes.{side, split}
 use Rattle.table.proofs.Changes.{each-more}
 use Rattle.table.proofs.Leasts.{none-earlier, something-due}
 use Rattle.cells.specs.Cells.{changeIn, countOf, pendingOf, pendings, Fit, Reached, Due, ComesNext}

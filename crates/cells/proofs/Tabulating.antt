@@ -10,7 +10,7 @@ use lib.ListN.{length, getD, set, take, drop, length-set, List·getD-eq-default}
 use lib.Seq.{ext-getD, getD-set-same, getD-set-other}
 use borrow.Author.Tests.{eqb-true, eqb-false}
 use Rattle.table.specs.Table.{tabulate}
-use Rattle.table.proofs.Tabulated.{length-tabulate, at-tabulate, side}
+use Rattle.table.proofs.Tabulated.{length-tabulate, at-tabulate}
 
 -- two numbers are the same, or not
 same-or : (j k : ℕ) (b : Bool) → eqb j k ≡ b → (j ≡ k) ⊎ (j ≡ k → ⊥)

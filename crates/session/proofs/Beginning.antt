@@ -16,7 +16,7 @@ use Rattle.rules.specs.Session.{Each, Rising}
 use Rattle.rules.specs.Dump.{startBytes}
 use Rattle.rules.specs.Calls.{Progress, refused, moved, answered, cycles, started, start}
 use Rattle.table.specs.Table.{Table, bit, tabulate, runner, runners}
-use Rattle.table.proofs.Tabulated.{length-tabulate, bit-zero, side}
+use Rattle.table.proofs.Tabulated.{length-tabulate, bit-zero}
 use Rattle.table.proofs.Threads.{threaded}
 use Rattle.table.proofs.Local.{one-after-the-other}
 use Rattle.layout.specs.TableWords.{signalsAt, initialFrom, FitTableWords}
