@@ -1,0 +1,51 @@
+-- Tabulated lists: one entry more, one entry changed, and when two are the same. Assumes nothing.
+use Prim.Native.Nat.{ℕ, zero, suc, _+_, _-_, _<_, _≤_}
+use mathlib.Core.Path.{_≡_, refl, ap, sym, _∙_}
+use mathlib.Core.Logic.{_⊎_, inl, inr, ⊎-elim}
+use mathlib.Core.List.{List, [], _∷_, _++_}
+use mathlib.Core.Bool.{Bool, true, false}
+use native.Mathlib.Omega.{arith}
+use lib.Dec.{eqb}
+use lib.ListN.{length, getD, set, take, drop, length-set, List·getD-eq-default}
+use lib.Seq.{ext-getD, getD-set-same, getD-set-other}
+use borrow.Author.Tests.{eqb-true, eqb-false}
+use Rattle.table.specs.Table.{tabulate}
+use Rattle.table.proofs.Tabulated.{length-tabulate, at-tabulate}
+
+-- two numbers are the same, or not
+same-or : (j k : ℕ) (b : Bool) → eqb j k ≡ b → (j ≡ k) ⊎ (j ≡ k → ⊥)
+same-or j k true e = inl (eqb-true j k e)
+same-or j k false e = inr (eqb-false j k e)
+
+pub by : {A : Type 0} (j k : ℕ) → (j ≡ k → A) → ((j ≡ k → ⊥) → A) → A
+by j k f g = ⊎-elim f g (same-or j k (eqb j k) refl)
+
+module _ {A : Type 0} where
+  pub tabulate-same : (f g : ℕ → A) (i j n : ℕ) → ((k : ℕ) → k < n → g (j + k) ≡ f (i + k)) → tabulate g j n ≡ tabulate f i n
+  unfolding tabulate
+  tabulate-same f g i j zero h = refl
+  tabulate-same f g i j (suc n) h =
+      let e : g j ≡ f i = ap g (omega arith) ∙ h 0 (omega arith) ∙ ap f (omega arith) in
+      rw (e, tabulate-same f g (suc i) (suc j) n (λ k l. ap g (omega arith) ∙ h (suc k) (omega arith) ∙ ap f (omega arith)))
+
+  pub tabulate-more : (f : ℕ → A) (i n : ℕ) → tabulate f i (suc n) ≡ tabulate f i n ++ (f (i + n) ∷ [])
+  unfolding tabulate
+  tabulate-more f i zero = let e : i + 0 ≡ i = omega arith in rw e
+  tabulate-more f i (suc n) = let e : suc i + n ≡ i + suc n = omega arith in rw (tabulate-more f (suc i) n, e)
+
+  pub at-tabulated : (f : ℕ → A) (d : A) (n k : ℕ) → k < n → getD (tabulate f 0 n) k d ≡ f k
+  at-tabulated f d n k l = at-tabulate f d 0 n k l ∙ ap f (omega arith)
+
+  pub past-tabulated : (f : ℕ → A) (d : A) (n k : ℕ) → n ≤ k → getD (tabulate f 0 n) k d ≡ d
+  past-tabulated f d n k l = List·getD-eq-default (tabulate f 0 n) d (omega (arith, length-tabulate f 0 n))
+
+  -- one entry changed
+  pub tabulate-set : (f g : ℕ → A) (n k : ℕ) → k < n → ((j : ℕ) → j < n → (j ≡ k → ⊥) → g j ≡ f j) → tabulate g 0 n ≡ set (tabulate f 0 n) k (g k)
+  tabulate-set f g n k l same =
+      ext-getD (g k) (tabulate g 0 n) (set (tabulate f 0 n) k (g k))
+      (length-tabulate g 0 n ∙ sym (length-set (tabulate f 0 n) k (g k) ∙ length-tabulate f 0 n))
+      (λ j h.
+      let b : j < n = omega (arith, length-tabulate g 0 n) in
+      by j k
+      (λ e. at-tabulated g (g k) n j b ∙ ap g e ∙ sym (ap (λ i. getD (set (tabulate f 0 n) k (g k)) i (g k)) e ∙ getD-set-same (tabulate f 0 n) k (g k) (g k) (omega (arith, length-tabulate f 0 n))))
+      (λ ne. at-tabulated g (g k) n j b ∙ same j b ne ∙ sym (getD-set-other (tabulate f 0 n) k j (g k) (g k) ne ∙ at-tabulated f (g k) n j b)))

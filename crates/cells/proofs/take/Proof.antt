@@ -1,0 +1,118 @@
+-- `cells::take` meets its contract: nothing is due, or the first change is. Assumes nothing.
+use Prim.Native.Nat.{ℕ, _+_, _*_, _-_, _/_, _≤_, _<_}
+use mathlib.Core.Path.{_≡_, refl, sym, _∙_}
+use native.Mathlib.Omega.{arith}
+use lib.ListN.{length, getD, set, length-set}
+use Rattle.cells.specs.Cells.{countOf, truth}
+use Rattle.cells.proofs.Taking.{took-none, took-later, took-done}
+use borrow.Author.Needs.{needs}
+use Rattle.cells.proofs.take.Statement.{statement}
+use Rattle.cells.proofs.take.Tie as tie
+
+add-top : tie.Need-add-top
+add-top c = search needs
+
+mul-base : tie.Need-mul-base
+mul-base c = search needs
+
+add-base : tie.Need-add-base
+add-base c = search needs
+
+mul-count : tie.Need-mul-count
+mul-count c = search needs
+
+element-copy-out-count : tie.Need-element-copy-out-count
+element-copy-out-count c = search needs
+
+returns : tie.Need-returns
+returns c =
+    let b = c .before .before in
+    took-none (b .args .cells .now) (b .args .signal) (b .args .time) (b .pre .0) (b .pre .1 .0) (b .pre .1 .1) (c .if1 .taken)
+
+mul-x : tie.Need-mul-x
+mul-x c = search needs
+
+element-copy-out-x : tie.Need-element-copy-out-x
+element-copy-out-x c = search needs
+
+returns-2 : tie.Need-returns-2
+returns-2 c =
+    let b = c .before .before .before .before in
+    took-later (b .args .cells .now) (b .args .signal) (b .args .time) (b .pre .0) (b .pre .1 .0) (b .pre .1 .1) (omega arith) (c .if2 .taken)
+
+shift-requires : tie.Need-shift-requires
+shift-requires c κs =
+    let b = c .before .before .before .before .before in
+    (omega (arith, b .pre .0 .few (b .args .signal) (b .pre .1 .0)), (b .pre .0 .long, omega arith))
+
+sub-last : tie.Need-sub-last
+sub-last c = search needs
+
+add-last : tie.Need-add-last
+add-last c =
+    let b = c .before .before .before .before .before .before in
+    omega (arith, b .pre .0 .few (b .args .signal) (b .pre .1 .0))
+
+mul-cells : tie.Need-mul-cells
+mul-cells c =
+    let b = c .before .before .before .before .before .before in
+    omega (arith, b .pre .0 .few (b .args .signal) (b .pre .1 .0))
+
+element-write-cells : tie.Need-element-write-cells
+element-write-cells c =
+    let b = c .before .before .before .before .before .before in
+    omega (arith, b .pre .0 .few (b .args .signal) (b .pre .1 .0), c .shift .ensures .long)
+
+sub-cells : tie.Need-sub-cells
+sub-cells c = search needs
+
+mul-cells-2 : tie.Need-mul-cells-2
+mul-cells-2 c = search needs
+
+element-write-cells-2 : tie.Need-element-write-cells-2
+element-write-cells-2 c = search needs
+
+mul-old : tie.Need-mul-old
+mul-old c = search needs
+
+element-copy-out-old : tie.Need-element-copy-out-old
+element-copy-out-old c = search needs
+
+mul-cells-3 : tie.Need-mul-cells-3
+mul-cells-3 c = search needs
+
+element-write-cells-3 : tie.Need-element-write-cells-3
+element-write-cells-3 c = search needs
+
+returns-3 : tie.Need-returns-3
+returns-3 c =
+    let b = c .before .before .before .before .before .before .before in
+    took-done (b .args .cells .now) (b .args .signal) (b .args .time) (b .pre .0) (b .pre .1 .0) (b .pre .1 .1) (c .before .shift .last .0)
+    (omega arith) (c .before .before .before .if2 .left) (c .before .shift .ensures)
+
+pub take-spec : {M : Type 1} → statement M
+take-spec =
+    tie.close
+    (tie.spec
+    add-top
+    mul-base
+    add-base
+    mul-count
+    element-copy-out-count
+    returns
+    mul-x
+    element-copy-out-x
+    returns-2
+    shift-requires
+    sub-last
+    add-last
+    mul-cells
+    element-write-cells
+    sub-cells
+    mul-cells-2
+    element-write-cells-2
+    mul-old
+    element-copy-out-old
+    mul-cells-3
+    element-write-cells-3
+    returns-3)

@@ -1,0 +1,2 @@
+-- The step machine over a table's words and a session's cells.
+pub mod Inside

@@ -1,0 +1,43 @@
+-- An advance on cells is an advance. Assumes nothing.
+use Prim.Native.Nat.{ℕ, _+_, _<_, _≤_}
+use mathlib.Core.Path.{_≡_, refl, ap, sym, _∙_}
+use mathlib.Core.List.{List, []}
+use mathlib.Core.Bool.{Bool, true, false}
+use native.Mathlib.Omega.{arith}
+use lib.Dec.{ltb}
+use borrow.Author.Tests.{lt-ltb, le-ltb}
+use Rattle.laws.specs.Pick.{pick}
+use Rattle.rules.specs.Outcome.{Outcome, refuses, gives}
+use Rattle.rules.specs.Pending.{Least, nothing, first, least}
+use Rattle.rules.specs.Runner.{Runner}
+use Rattle.rules.specs.Session.{Session}
+use Rattle.rules.specs.Dump.{advanceBytes}
+use Rattle.rules.specs.Calls.{Progress, refused, quiet, stopReached, moved, answered, cycles, advance}
+use Rattle.cells.specs.Cells.{values, pendings, FitFor, Due, ComesNext}
+use Rattle.cells.specs.declared.Coming.the-variants.{Nothing, At}
+use Rattle.cycles.specs.Inside.Turns.{sessionOf, progressOf}
+use Rattle.writing.specs.Inside.Written.{bitsOf, Packs}
+use Rattle.writing.proofs.Packing.{bits-values}
+
+module _ (rs : List Runner) (n : ℕ) (cs : List ℕ) (stop was : ℕ) where
+  pub forward-quiet : ComesNext (pendings n cs) Nothing → advance rs stop (sessionOf was n cs) ≡ quiet
+  unfolding advance
+  forward-quiet e = rw e
+
+  module _ (t word : ℕ) (next : ComesNext (pendings n cs) (At t word)) where
+    pub forward-stop : stop < t → advance rs stop (sessionOf was n cs) ≡ stopReached
+    unfolding advance
+    forward-stop l = rw (next .0, lt-ltb stop t l)
+
+    goes : t ≤ stop → advance rs stop (sessionOf was n cs) ≡ answered (advanceBytes t (values n cs)) (cycles rs 1000 t (progressOf was n cs 0 0))
+    unfolding advance
+    goes l = rw (next .0, le-ltb stop t l)
+
+    pub forward-refused : t ≤ stop → (r : ℕ) → cycles rs 1000 t (progressOf was n cs 0 0) ≡ refuses r → advance rs stop (sessionOf was n cs) ≡ refused r
+    forward-refused l r e = goes l ∙ ap (answered (advanceBytes t (values n cs))) e
+
+    pub forward-moved : t ≤ stop → (before c m : ℕ) (fs : List ℕ) → Packs cs n 0 before → cycles rs 1000 t (progressOf was n cs 0 0) ≡ gives (progressOf t n fs c m)
+        → advance rs stop (sessionOf was n cs) ≡ moved (record { session = sessionOf t n fs; bytes = advanceBytes t (bitsOf n before) (values n fs); cycles = c; steps = m })
+    forward-moved l before c m fs p e =
+        goes l ∙ ap (answered (advanceBytes t (values n cs))) e
+        ∙ ap (λ vs. moved (record { session = sessionOf t n fs; bytes = advanceBytes t vs (values n fs); cycles = c; steps = m })) (sym (bits-values cs n before p))
