@@ -1,14 +1,12 @@
 -- A session's words are fit for a table just where each part that is tested is. Assumes nothing.
-use Prim.Native.Nat.{ℕ, zero, suc, _+_, _-_, _*_, _/_, _≤_, _<_}
+use Prim.Native.Nat.{ℕ, _+_, _-_, _*_, _/_, _≤_, _<_}
 use native.Mathlib.Omega.{arith}
 use mathlib.Core.Path.{_≡_, refl, sym, _∙_, ap, subst}
-use mathlib.Core.Bool.{Bool, true, false}
+use mathlib.Core.Bool.{Bool, false}
 use mathlib.Core.Logic.{⊎-elim}
 use mathlib.Core.List.{List, []}
-use lib.Dec.{eqb}
 use lib.ListN.{length, getD, List·getD-eq-default}
-use borrow.Author.Tests.{eqb-true, eqb-false, eq-eqb, ne-eqb}
-use Rattle.laws.specs.Pick.{pick}
+use borrow.Author.Tests.{eq-eqb, ne-eqb}
 use Rattle.rules.specs.Sizes.{longest, mostPending}
 use Rattle.rules.specs.Pending.{Change}
 use Rattle.rules.specs.Session.{Session, Each, Rising, driven, FitSession}
@@ -25,12 +23,12 @@ use Rattle.layout.proofs.Sessions.{changesAt, decodeSession}
 use Rattle.layout.proofs.Tables.{decodeTable, decode-table}
 use Rattle.layout.proofs.Decoded.{PlainSession, plain-fit-session}
 use Rattle.fitness.specs.Decides.{Decides}
-use Rattle.fitness.specs.Inside.Parts.{signals, processes, instructions, Within, Rows}
+use Rattle.fitness.specs.Inside.Parts.{signals, processes, instructions, Rows}
 use Rattle.fitness.specs.Inside.Drivers.{Owned}
 use Rattle.fitness.proofs.Deciding.{differ, same-or}
 use Rattle.fitness.proofs.Reading.{count-signals, at-place}
 use Rattle.fitness.proofs.Whole.{zero-part, part-zero}
-use Rattle.fitness_session.specs.Inside.Parts.{Head, Changes, mostFor, Signal, Signals}
+use Rattle.fitness_session.specs.Inside.Parts.{Head, mostFor, Signals}
 use Rattle.fitness_session.proofs.Driven.{driven-known, driven-none, driven-exists}
 
 most-none : (driver : ℕ) → driver ≡ 0 → mostFor driver ≡ 0
