@@ -1,15 +1,12 @@
 -- The number of a legal instruction's kind says what the instruction does, and its words are those of the instruction. Assumes nothing.
-use Prim.Native.Nat.{ℕ, zero, suc, _+_, _*_, _/_, _%_, _≤_, _<_}
+use Prim.Native.Nat.{ℕ, zero, suc, _+_, _*_, _/_, _%_, _<_}
 use native.Mathlib.Omega.{arith}
 use mathlib.Core.Path.{_≡_, refl, sym, _∙_, ap}
-use mathlib.Core.Bool.{Bool, true, false}
 use mathlib.Core.Logic.{_⊎_, inl, inr, ⊎-elim}
-use mathlib.Core.List.{List, [], _∷_}
-use lib.Dec.{eqb, ltb}
+use mathlib.Core.List.{[], _∷_}
 use lib.ListN.{getD}
-use Rattle.laws.specs.Pick.{pick}
 use Rattle.syntax.specs.Circuit.{AND, OR, NAND, NOR, XOR, XNOR}
-use Rattle.table.specs.Instructions.{Instruction, name, literal, negation, binary, assignment, test, skip, takes, leaves}
+use Rattle.table.specs.Instructions.{Instruction, name, literal, negation, binary, takes, leaves}
 use Rattle.table.specs.Translation.{number}
 use Rattle.table.specs.Fit.{Leads, Ahead, Exists}
 use Rattle.layout.specs.TableWords.{operationWord, delayWord}

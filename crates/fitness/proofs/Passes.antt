@@ -9,14 +9,14 @@ use mathlib.Core.List.{List}
 use lib.Dec.{eqb, leb, ltb}
 use lib.ListN.{getD, length, set, length-set, replicate, length-replicate}
 use lib.Seq.{getD-set-same, getD-set-other}
-use borrow.Author.Tests.{eqb-true, eqb-false, leb-true, le-leb, ne-eqb, not-true, not-false}
+use borrow.Author.Tests.{eqb-false, leb-true, le-leb, ne-eqb, not-true}
 use Rattle.laws.specs.Pick.{pick}
 use Rattle.table.specs.Instructions.{Instruction, takes, leaves}
 use Rattle.table.specs.Table.{Table, begins}
 use Rattle.table.specs.Fit.{at, Leads, Ahead, Way, begin, on, Sound}
 use Rattle.table.proofs.Heights.{leads-ahead}
 use Rattle.fitness.specs.Inside.Kinds.{takesOf, leavesOf, Follows, next, jump, Forward}
-use Rattle.fitness.specs.Inside.Heights.{PutAs, after, Broken, short, high, clash, New, Kept, Stepped, Fresh, Passed}
+use Rattle.fitness.specs.Inside.Heights.{PutAs, after, Broken, short, high, clash, Stepped, Fresh, Passed}
 use Rattle.fitness.specs.Inside.Parts.{Sounds}
 use Rattle.fitness.proofs.Deciding.{differ, same-or, some}
 use Rattle.fitness.proofs.Kind.{Kind}

@@ -1,5 +1,5 @@
 -- Words are fit just where each part that is tested is. Assumes nothing.
-use Prim.Native.Nat.{ℕ, zero, suc, _+_, _-_, _*_, _/_, _%_, _^_, _≤_, _<_}
+use Prim.Native.Nat.{ℕ, _+_, _-_, _*_, _/_, _%_, _^_, _≤_, _<_}
 use native.Mathlib.Omega.{arith}
 use native.Mathlib.Nat.{pow-le-pow-right}
 use mathlib.Core.Path.{_≡_, refl, sym, _∙_, ap, subst}
@@ -9,10 +9,10 @@ use mathlib.Core.List.{List}
 use lib.ListN.{length, getD, List·getD-eq-default}
 use Rattle.syntax.specs.Circuit.{AND, OR, NAND, NOR, XOR, XNOR}
 use Rattle.table.specs.Instructions.{Instruction, name, literal, negation, binary, assignment, test, skip}
-use Rattle.table.specs.Table.{Table, begins}
+use Rattle.table.specs.Table.{begins}
 use Rattle.table.specs.Fit.{at, Exists, FitTable}
 use Rattle.table.proofs.Outcomes.{side}
-use Rattle.layout.specs.TableWords.{operationWord, delayWord, HoldsTable, FitTableWords}
+use Rattle.layout.specs.TableWords.{operationWord, delayWord, FitTableWords}
 use Rattle.layout.proofs.Columns.{in-part}
 use Rattle.layout.proofs.TableLaws.{instructionAt, words-small, operation-at, delay-at}
 use Rattle.layout.proofs.Tables.{decodeTable}

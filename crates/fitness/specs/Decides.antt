@@ -1,7 +1,7 @@
 -- When a yes-or-no answer decides a fact. Assumes nothing: this is a definition.
 use Prim.Native.Nat.{ℕ}
 use native.Mathlib.Omega.{arith}
-use mathlib.Core.Path.{_≡_, refl}
+use mathlib.Core.Path.{_≡_}
 use mathlib.Core.Bool.{Bool, true, false}
 
 -- the answer is true where the fact holds, and false where it does not

@@ -3,18 +3,17 @@ use Prim.Native.Nat.{ℕ, zero, suc, _+_, _≤_, _<_}
 use native.Mathlib.Omega.{arith}
 use mathlib.Core.Path.{_≡_, refl, sym, subst}
 use mathlib.Core.Bool.{Bool, true, false, _||_}
-use mathlib.Core.Logic.{_⊎_, inl, inr, ⊎-elim}
 use mathlib.Core.List.{List}
 use lib.ListN.{length, getD}
 use Rattle.rules.specs.Runner.{Runner}
 use Rattle.rules.specs.Session.{driven}
 use Rattle.table.specs.Instructions.{Instruction, name, literal, negation, binary, assignment, test, skip}
-use Rattle.table.specs.Table.{Table, tabulate, begins, part, posts, runner, runners}
+use Rattle.table.specs.Table.{tabulate, begins, posts, runner, runners}
 use Rattle.table.specs.Fit.{at, Exists, FitTable}
 use Rattle.table.proofs.Obedient.{driven-by}
 use Rattle.layout.proofs.Tables.{decodeTable}
 use Rattle.fitness.specs.Inside.Parts.{processes, instructions, Rows}
-use Rattle.fitness.specs.Inside.Drivers.{Posts, Drives, Owned}
+use Rattle.fitness.specs.Inside.Drivers.{Posts, Owned}
 use Rattle.fitness.proofs.Deciding.{differ, some}
 use Rattle.fitness.proofs.Reading.{count-processes, count-instructions, rows-low}
 use Rattle.fitness.proofs.Owners.{own-known, drives-posts, posts-drives}

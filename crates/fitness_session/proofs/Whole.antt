@@ -1,14 +1,12 @@
 -- A session's words are fit for a table just where each part that is tested is. Assumes nothing.
-use Prim.Native.Nat.{ℕ, zero, suc, _+_, _-_, _*_, _/_, _≤_, _<_}
+use Prim.Native.Nat.{ℕ, _+_, _-_, _*_, _/_, _≤_, _<_}
 use native.Mathlib.Omega.{arith}
 use mathlib.Core.Path.{_≡_, refl, sym, _∙_, ap, subst}
-use mathlib.Core.Bool.{Bool, true, false}
+use mathlib.Core.Bool.{Bool, false}
 use mathlib.Core.Logic.{⊎-elim}
 use mathlib.Core.List.{List, []}
-use lib.Dec.{eqb}
 use lib.ListN.{length, getD, List·getD-eq-default}
-use borrow.Author.Tests.{eqb-true, eqb-false, eq-eqb, ne-eqb}
-use Rattle.laws.specs.Pick.{pick}
+use borrow.Author.Tests.{eq-eqb, ne-eqb}
 use Rattle.rules.specs.Sizes.{longest, mostPending}
 use Rattle.rules.specs.Pending.{Change}
 use Rattle.rules.specs.Session.{Session, Each, Rising, driven, FitSession}
@@ -16,7 +14,7 @@ use Rattle.table.specs.Table.{Table, tabulate, runners}
 use Rattle.table.specs.Fit.{FitTable}
 use Rattle.table.proofs.Outcomes.{side}
 use Rattle.table.proofs.Tabulated.{length-tabulate}
-use Rattle.layout.specs.TableWords.{HoldsTable}
+use Rattle.layout.specs.TableWords.{HoldsTable, FitTableWords}
 use Rattle.layout.specs.SessionWords.{HoldsSession, FitSessionWords}
 use Rattle.layout.proofs.Columns.{in-part}
 use Rattle.layout.proofs.ChangeWords.{changeOf, none, each-from, rising-from}
@@ -25,12 +23,12 @@ use Rattle.layout.proofs.Sessions.{changesAt, decodeSession}
 use Rattle.layout.proofs.Tables.{decodeTable, decode-table}
 use Rattle.layout.proofs.Decoded.{PlainSession, plain-fit-session}
 use Rattle.fitness.specs.Decides.{Decides}
-use Rattle.fitness.specs.Inside.Parts.{signals, processes, instructions, Within, Rows}
+use Rattle.fitness.specs.Inside.Parts.{signals, processes, instructions, Rows}
 use Rattle.fitness.specs.Inside.Drivers.{Owned}
-use Rattle.fitness.proofs.Deciding.{differ, same-or}
+use Rattle.fitness.proofs.Deciding.{differ, same-or, one-answer}
 use Rattle.fitness.proofs.Reading.{count-signals, at-place}
 use Rattle.fitness.proofs.Whole.{zero-part, part-zero}
-use Rattle.fitness_session.specs.Inside.Parts.{Head, Changes, mostFor, Signal, Signals}
+use Rattle.fitness_session.specs.Inside.Parts.{Head, mostFor, Signals}
 use Rattle.fitness_session.proofs.Driven.{driven-known, driven-none, driven-exists}
 
 most-none : (driver : ℕ) → driver ≡ 0 → mostFor driver ≡ 0
@@ -197,3 +195,9 @@ module _ (w v own : List ℕ) (fits : FitTable (decodeTable w)) (rows : Rows (de
 pub for-table : (w v : List ℕ) (r : Bool) → Decides r (FitSessionWords (decodeTable w) v) → (t : Table) → HoldsTable w t → FitTable t
     → Decides r (FitSessionWords t v)
 for-table w v r d t h f = subst (λ u. Decides r (FitSessionWords u v)) (decode-table w t h f) d
+
+-- no second answer fits
+pub one-answer-for : (w v : List ℕ) (r s : Bool) → FitTableWords w
+    → ((t : Table) → HoldsTable w t → FitTable t → Decides r (FitSessionWords t v))
+    → ((t : Table) → HoldsTable w t → FitTable t → Decides s (FitSessionWords t v)) → r ≡ s
+one-answer-for w v r s f d e = one-answer r s _ (d (f .table) (f .holds) (f .fit)) (e (f .table) (f .holds) (f .fit))

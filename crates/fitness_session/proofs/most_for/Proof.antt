@@ -1,6 +1,5 @@
 -- `fitness_session::most_for` meets its contract: it makes the same test.
 -- Assumes nothing.
-use mathlib.Core.Path.{refl}
 use borrow.Author.Tests.{eq-eqb, ne-eqb}
 use Rattle.fitness_session.specs.Inside.Parts.{mostFor}
 use Rattle.fitness_session.proofs.most_for.Statement.{statement}

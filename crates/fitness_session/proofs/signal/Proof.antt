@@ -1,6 +1,5 @@
 -- `fitness_session::signal` meets its contract: the number of changes, then the changes.
 -- Assumes nothing.
-use borrow.Author.Tests.{not-true, not-false}
 use borrow.Author.Needs.{needs}
 use native.Mathlib.Omega.{arith}
 use Rattle.fitness.proofs.Deciding.{decides-no}

@@ -1,6 +1,5 @@
 -- `fitness::kinds::about_below` meets its contract: two kinds are about a signal.
 -- Assumes nothing.
-use mathlib.Core.Path.{refl}
 use mathlib.Core.Logic.{⊎-elim, inl, inr}
 use borrow.Author.Needs.{needs}
 use Rattle.fitness.specs.Inside.Kinds.{aboutBelow}

@@ -1,6 +1,5 @@
 -- `fitness::kinds::leaves_of` meets its contract: it makes the same test.
 -- Assumes nothing.
-use mathlib.Core.Path.{refl}
 use borrow.Author.Tests.{lt-ltb, le-ltb}
 use Rattle.fitness.specs.Inside.Kinds.{leavesOf}
 use Rattle.fitness.proofs.kinds.leaves_of.Statement.{statement}

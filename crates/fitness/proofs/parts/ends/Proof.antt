@@ -1,7 +1,7 @@
 -- `fitness::parts::ends` meets its contract: the ends below p rise.
 -- Assumes nothing.
 use Prim.Native.Nat.{_-_, _≤_}
-use mathlib.Core.Path.{_≡_, refl, sym}
+use mathlib.Core.Path.{_≡_, refl}
 use borrow.Author.Needs.{needs}
 use native.Mathlib.Omega.{arith}
 use Rattle.table.specs.Table.{begins}

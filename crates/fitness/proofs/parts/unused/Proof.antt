@@ -2,7 +2,6 @@
 -- Assumes nothing.
 use borrow.Author.Tests.{not-true, not-false}
 use borrow.Author.Needs.{needs}
-use native.Mathlib.Omega.{arith}
 use Rattle.fitness.proofs.Deciding.{decides-no}
 use Rattle.fitness.proofs.parts.unused.Statement.{statement}
 use Rattle.fitness.proofs.parts.unused.Tie as tie
