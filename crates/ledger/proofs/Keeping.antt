@@ -9,9 +9,11 @@ use borrow.Author.Tests.{lt-ltb, le-ltb}
 use lib.ListN.{length, getD, set, length-set}
 use lib.Seq.{getD-set-same, getD-set-other}
 use Rattle.words.specs.Token.{Name}
+use Rattle.look.specs.declared.Look.{Look}
+use Rattle.look.proofs.Looks.{There}
 use Rattle.names.specs.Roles.{Role, passes}
 use Rattle.names.specs.Judge.{State, start, Judgement, fine, refused, onward, judge, judged, numberOf, used, undeclared}
-use Rattle.ledger.specs.Inside.Standing.{namesFrom, usedIn, Standing, Refusing, Keeps, keepsFine, keepsRefused, Sound, Held, Judges, Numbers}
+use Rattle.ledger.specs.Inside.Standing.{Span, namesFrom, usedIn, Standing, Refusing, Keeps, keepsFine, keepsRefused, Sound, Held, Judges, Numbers}
 use Rattle.ledger.proofs.Shelves.{names-length, among-number, number-most}
 
 -- JUDGEMENTS, one after the other
@@ -83,6 +85,10 @@ unlabelled (keepsRefused r) = keepsRefused r
 
 pub sound-unlabelled : {t l : List ℕ} → Sound 0 t l → Sound 1 t l
 sound-unlabelled s = record { judgement = s .judgement; keeps = unlabelled (s .keeps) }
+
+-- a token that a look sees is a part of the text
+pub there-span : {s : List ℕ} {at : ℕ} {l : Look} → There s at l → Span s (l .start) (l .end)
+there-span x = record { rising = omega (arith, x .some); inside = x .inside }
 
 -- A FRESH LEDGER
 

@@ -22,8 +22,8 @@ ghost use Rattle.names.specs.Roles.{Role, declares, labels, listens, reads, ass
 ghost use Rattle.names.specs.Judge.{State, start, fine, refused, judge};
 ghost use Rattle.ledger.specs.Inside.Standing.{Span, Shelf, Keeps, Sound, Held, Judges, Numbers, Lasts, usedIn, nameOption};
 
-// The words of a ledger: the first refusal and its place (0: none yet) and four counts; from the places after these on, the start and the end
-// of each signal's name and of each label, and for each signal the process that assigns it, counted from 1 (0: none yet).
+// The words of a ledger: the number of the first refusal (0: none yet) and its place; how many signals, labels, processes and instructions there are;
+// where each signal's name starts and ends, and so each label; for each signal, one more than the number of its process, counted from 1 (0: none yet).
 pub const NUMBER: usize = 0;
 
 pub const PLACE: usize = 1;
@@ -171,7 +171,7 @@ pub fn read_signal(text: &[u8], ledger: &mut [u64; 328], start: usize, end: usiz
     number
 }
 
-// One of the processes before the last has this number.
+// A signal's word says that a process before the last assigns it.
 fn is_earlier(driver: u64, processes: u64) -> bool
     ensures { λ r. ⌜ r ≡ within 1 processes driver ⌝ }
 {

@@ -14,14 +14,14 @@ use Rattle.laws.specs.Pick.{pick, within}
 use Rattle.laws.proofs.Ranges.{Ranged, ranged, below, inside, above}
 use Rattle.laws.proofs.Table.{first-passes, others-pass}
 use Rattle.words.specs.Integer.{valueOf}
-use Rattle.words.specs.Vocabulary.{lower}
 use Rattle.words.specs.declared.unit.TimeUnit.{TimeUnit}
 use Rattle.words.specs.declared.unit.TimeUnit.the-variants.{Fs, Ps, Ns, Us, Ms, Sec, Min, Hr}
 use Rattle.words.specs.Token.{Once, NAND, NOR, Chain, AND, OR, XOR, XNOR, Fixed}
 use Rattle.words.specs.Token.{ENTITY, IS, END, ARCHITECTURE, OF, SIGNAL, BEGIN, BOOLEAN, PROCESS, TRANSPORT, AFTER, IF, THEN, ELSE, NULL, NOT, OPEN, CLOSE, COMMA, COLON, SEMICOLON, ARROW, BECOMES}
 use Rattle.words.specs.Token.{Token, name, integer, literal, once, chain, unit, fixed, foreign}
 use Rattle.syntax.proofs.Rows.{Kind, anyName, anyInteger, anyLiteral, anyOnce, anyChain, anyUnit, theChain, theFixed, Content, tokenOf, Fits, fits, Symbol, Row, row, find, rows, next}
-use Rattle.look.specs.Inside.Looks.{kinds, tokenOfKind, onceOf, chainOf, literalOf, unitOf}
+use Rattle.look.specs.declared.Look.{Look}
+use Rattle.look.specs.Inside.Looks.{part, nameAt, kinds, tokenOfKind, tokenOfLook, onceOf, chainOf, literalOf, unitOf}
 
 -- THE NUMBER OF A TOKEN
 
@@ -279,10 +279,16 @@ module _ (run : List ℕ) (k : ℕ) where
 pub chain-kind : (k : ℕ) → 18 ≤ k → k < 22 → chainKind (chainOf k) ≡ k
 chain-kind k h l = in-range (λ (n : ℕ). chainKind (chainOf n) ≡ n) 18 4 (refl, (refl, (refl, (refl, tt)))) k h l
 
-pub name-token : (run : List ℕ) → tokenOfKind run 108 ≡ name (lower run)
-unfolding tokenOfKind
-name-token run = refl
+-- THE TOKEN THAT A LOOK SEES, by its number
 
-pub integer-token : (run : List ℕ) → tokenOfKind run 109 ≡ integer (valueOf run)
-unfolding tokenOfKind
-integer-token run = refl
+module _ (s : List ℕ) (l : Look) where
+  pub name-seen : l .kind ≡ 108 → tokenOfLook s l ≡ name (nameAt s (l .start) (l .end))
+  unfolding tokenOfKind nameAt
+  name-seen e = rw e
+
+  pub integer-seen : l .kind ≡ 109 → tokenOfLook s l ≡ integer (valueOf (part s (l .start) (l .end)))
+  unfolding tokenOfKind
+  integer-seen e = rw e
+
+  pub fixed-seen : (w : Fixed) → l .kind ≡ fixedKind w → tokenOfLook s l ≡ fixed w
+  fixed-seen w e = ap (tokenOfKind (part s (l .start) (l .end))) e ∙ fixed-token (part s (l .start) (l .end)) w

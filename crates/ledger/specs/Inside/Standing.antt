@@ -48,7 +48,7 @@ nameOption text start end = pick (ltb start end) (some (nameAt text start end)) 
 
 -- THE WORDS AND A STATE
 
--- the word of the process that assigns a signal, counted from 1, and what the processes before the last and the last one assign
+-- the word of a signal, one more than the number of its process, and what the processes before the last and the last one assign
 pub record Driven (driver signal : ℕ) (y : State) : Type 0 where
   pub earlierOnes : has signal (y .earlier) ≡ within 1 (y .processes) driver
   pub lastOne : has signal (y .current) ≡ eqb driver (y .processes + 1)
@@ -112,5 +112,14 @@ two-names : namesFrom (bytes "signal Q, d") (7 ∷ 8 ∷ 10 ∷ 11 ∷ []) 0 2 �
 unfolding namesFrom nameAt
 two-names = refl
 
+-- a process with the label `P`, and one without
+a-label : nameOption (bytes "P : process") 0 1 ≡ some (bytes "p")
+unfolding nameAt
+a-label = refl
+
+no-label : nameOption (bytes "P : process") 0 0 ≡ none
+no-label = refl
+
+-- behind two names, a third from 7 to 8
 one-more : added (2 ∷ 5 ∷ 0 ∷ 0 ∷ 0 ∷ 0 ∷ 0 ∷ []) 0 1 7 8 ≡ 3 ∷ 5 ∷ 0 ∷ 0 ∷ 0 ∷ 7 ∷ 8 ∷ []
 one-more = refl

@@ -113,3 +113,9 @@ a-word = refl
 at-the-end : lookOf assigns 23 ≡ record { kind = 117; start = 23; end = 23 }
 unfolding classOf skipFrom runLength allDigits singles markOf lexemeOf scanOf subset others vocabulary rowFrom rowOf sameList lookOf
 at-the-end = refl
+
+a-unit : unitOf 26 ≡ Ns
+a-unit = refl
+
+a-chain : chainOf 20 ≡ XOR
+a-chain = refl
