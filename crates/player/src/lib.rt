@@ -1,0 +1,128 @@
+// Plays a table to standard output: its start, and advances up to a stop. What a run writes is gathered and written in large pieces.
+use libc::STDOUT_FILENO;
+use session::Answer;
+use session::begin;
+use session::forward;
+ghost use mathlib.Core.Path.{_≡_};
+ghost use Prim.Native.Nat.{_≤_};
+ghost use lib.ListN.{length};
+ghost use Rattle.layout.specs.TableWords.{FitTableWords};
+ghost use Rattle.cells.specs.Cells.{FitFor};
+ghost use Rattle.machine.specs.Inside.Steps.{signalsOf};
+ghost use Rattle.player.specs.Inside.Turns.{Went};
+
+// The line of a refusal with no place.
+pub fn say_refused(number: u64) {
+    io::write_all(STDOUT_FILENO, b"refused ");
+    io::print_decimal(STDOUT_FILENO, number);
+    io::write_all(STDOUT_FILENO, b"\n");
+}
+
+// Writes the first so many bytes.
+fn flush(out: &[u8], count: usize)
+    requires { ⌜ length (now out) ≡ 36864 ⌝ }
+    requires { ⌜ count ≤ 36864 ⌝ }
+{
+    io::write_all(STDOUT_FILENO, &out[..count]);
+}
+
+// One advance: what it writes goes behind the first so many bytes.
+enum Turn {
+    Wrote(usize),
+    Ended,
+    Refused(u64),
+}
+
+fn take_turn(
+    cells: &mut [u64; 1152],
+    table: &[u64],
+    stop: u64,
+    out: &mut [u8],
+    count: usize,
+) -> Turn
+    requires { ⌜ FitTableWords (now table) ⌝ }
+    requires { ⌜ FitFor (signalsOf (now table)) (now cells) ⌝ }
+    requires { ⌜ stop ≤ 1000000000000000000 ⌝ }
+    requires { ⌜ length (now out) ≡ 36864 ⌝ }
+    requires { ⌜ count ≤ 32768 ⌝ }
+    ensures { λ r. ⌜ Went (signalsOf (now (table .entry))) r (now (cells .exit)) ⌝ }
+    ensures { λ _. ⌜ length (now (out .exit)) ≡ 36864 ⌝ }
+{
+    match forward(cells, table, stop, &mut out[count..]) {
+        Answer::Moves {
+            bytes,
+            time: _,
+            cycles: _,
+            steps: _,
+        } => Turn::Wrote(bytes),
+        Answer::Refused(number) => Turn::Refused(number),
+        Answer::Quiet => Turn::Ended,
+        Answer::StopReached => Turn::Ended,
+    }
+}
+
+// A buffer's count after so many bytes more. No call writes more than 4,096, so that the count never passes the buffer.
+fn more(count: usize, bytes: usize) -> usize
+    requires { ⌜ count ≤ 32768 ⌝ }
+    ensures { λ r. ⌜ r ≤ 36864 ⌝ }
+{
+    if bytes <= 4096 { count + bytes } else { count }
+}
+
+// Advances until nothing is pending or the stop is reached. A proved loop has to end, so it counts its turns down, from a number
+// that no run uses up.
+fn go_on(cells: &mut [u64; 1152], table: &[u64], stop: u64, out: &mut [u8], first: usize)
+    requires { ⌜ FitTableWords (now table) ⌝ }
+    requires { ⌜ FitFor (signalsOf (now table)) (now cells) ⌝ }
+    requires { ⌜ stop ≤ 1000000000000000000 ⌝ }
+    requires { ⌜ length (now out) ≡ 36864 ⌝ }
+    requires { ⌜ first ≤ 36864 ⌝ }
+{
+    let mut count = first;
+    let mut turns = u64::MAX;
+    while 0 < turns {
+        turns -= 1;
+        if 32768 < count {
+            flush(out, count);
+            count = 0;
+        }
+        match take_turn(cells, table, stop, out, count) {
+            Turn::Wrote(bytes) => {
+                count = more(count, bytes);
+            }
+            Turn::Ended => {
+                flush(out, count);
+                return;
+            }
+            Turn::Refused(number) => {
+                flush(out, count);
+                say_refused(number);
+                return;
+            }
+        }
+    }
+}
+
+pub fn play(table: &[u64], stop: u64)
+    requires { ⌜ FitTableWords (now table) ⌝ }
+    requires { ⌜ stop ≤ 1000000000000000000 ⌝ }
+{
+    let mut cells = [0u64; 1152];
+    let mut out = [0u8; 36864];
+    match begin(&mut cells, table, &mut out) {
+        Answer::Moves {
+            bytes,
+            time: _,
+            cycles: _,
+            steps: _,
+        } => {
+            let count = more(0, bytes);
+            go_on(&mut cells, table, stop, &mut out, count);
+        }
+        Answer::Refused(number) => {
+            say_refused(number);
+        }
+        Answer::Quiet => {}
+        Answer::StopReached => {}
+    }
+}
