@@ -1,4 +1,5 @@
--- The words of a session and its cells, and that no second outcome fits.
+-- The words of a session and its cells, what a call on lent words gives, and that no second outcome fits.
 pub mod Copying
 pub mod Holding
+pub mod Giving
 pub mod Once

@@ -69,6 +69,82 @@ pub fn start_fit(table: &[u64], words: &mut [u64], out: &mut [u8]) -> Answer
                 steps: s,
             }
         }
-        other => other,
+        Answer::Refused(n) => Answer::Refused(n),
+        Answer::Quiet => Answer::Quiet,
+        Answer::StopReached => Answer::StopReached,
     }
+}
+
+// An advance, where the table and the session are known to be fit.
+pub fn advance_fit(table: &[u64], words: &mut [u64], stop: u64, out: &mut [u8]) -> Answer
+    requires { ⌜ FitTableWords (now table) ⌝ }
+    requires { ⌜ FitSessionWords (decodeTable (now table)) (now words) ⌝ }
+    requires { ⌜ stop ≤ 1000000000000000000 ⌝ }
+    requires { ⌜ 4096 ≤ length (now out) ⌝ }
+    ensures { λ r. ⌜ ((f : FitTableWords (now (table .entry))) (s : FitSessionWords (f .table) (now (words .entry))) → Gives (calls.advance (runners (f .table)) stop (s .session)) (now (words .entry)) (now (out .entry)) r (now (words .exit)) (now (out .exit))) ⌝ }
+{
+    let mut cells = load(words);
+    match session::forward(&mut cells, table, stop, out) {
+        Answer::Moves {
+            bytes: b,
+            time: t,
+            cycles: c,
+            steps: s,
+        } => {
+            store(words, table[0], t, &cells);
+            Answer::Moves {
+                bytes: b,
+                time: t,
+                cycles: c,
+                steps: s,
+            }
+        }
+        Answer::Refused(n) => Answer::Refused(n),
+        Answer::Quiet => Answer::Quiet,
+        Answer::StopReached => Answer::StopReached,
+    }
+}
+
+// The start of a run on a lent table: the session's words are not read.
+pub fn start(table: &[u64], words: &mut [u64], out: &mut [u8]) -> Answer
+    ensures { λ r. ⌜ Starts (now (table .entry)) (now (words .entry)) (now (out .entry)) r (now (words .exit)) (now (out .exit)) ⌝ }
+{
+    if table.len() < 8387 {
+        return Answer::Refused(11);
+    }
+    if words.len() < 1154 {
+        return Answer::Refused(11);
+    }
+    if out.len() < 4096 {
+        return Answer::Refused(11);
+    }
+    if !fitness::fit_table(table) {
+        return Answer::Refused(13);
+    }
+    start_fit(table, words, out)
+}
+
+// An advance of a run on a lent table and session.
+pub fn advance(table: &[u64], words: &mut [u64], stop: u64, out: &mut [u8]) -> Answer
+    ensures { λ r. ⌜ Advances (now (table .entry)) (now (words .entry)) (now (out .entry)) stop r (now (words .exit)) (now (out .exit)) ⌝ }
+{
+    if table.len() < 8387 {
+        return Answer::Refused(11);
+    }
+    if words.len() < 1154 {
+        return Answer::Refused(11);
+    }
+    if out.len() < 4096 {
+        return Answer::Refused(11);
+    }
+    if 1000000000000000000 < stop {
+        return Answer::Refused(12);
+    }
+    if !fitness::fit_table(table) {
+        return Answer::Refused(13);
+    }
+    if !fitness_session::fit_session(table, words) {
+        return Answer::Refused(14);
+    }
+    advance_fit(table, words, stop, out)
 }
