@@ -2,4 +2,5 @@
 pub mod Copying
 pub mod Holding
 pub mod Giving
+pub mod Answering
 pub mod Once

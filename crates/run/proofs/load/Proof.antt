@@ -42,7 +42,7 @@ loop-again : tie.Need-loop-again Inv-loop μ-loop
 loop-again c = (omega arith, loaded-more (c .before .before .before .args .words .now) (c .before .before .loop .cells) (c .before .before .loop .j) (c .before .loop-test .taken) (c .before .before .loop .inv .1))
 
 returns : tie.Need-returns Inv-loop μ-loop
-returns c = 
+returns c =
     let e : c .before .loop .j ≡ 1152 = omega arith in
     subst (λ j. Loaded (c .before .before .args .words .now) j (c .before .loop .cells)) e (c .before .loop .inv .1)
 
