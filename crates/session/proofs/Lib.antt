@@ -3,3 +3,4 @@ pub mod Alls
 pub mod Goes
 pub mod Beginning
 pub mod Forwarding
+pub mod Methods

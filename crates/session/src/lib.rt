@@ -7,9 +7,10 @@ ghost use Rattle.rules.specs.Calls.{start, advance};
 ghost use Rattle.table.specs.Table.{runners};
 ghost use Rattle.layout.specs.TableWords.{FitTableWords};
 ghost use Rattle.layout.proofs.Tables.{decodeTable};
-ghost use Rattle.cells.specs.Cells.{FitFor};
+ghost use Rattle.cells.specs.Cells.{truth, FitFor, Due};
 ghost use Rattle.machine.specs.Inside.Steps.{signalsOf};
 ghost use Rattle.cycles.specs.Inside.Turns.{sessionOf};
+ghost use Rattle.session.specs.Sessions.{sessionIn, FitHeld, PostsAs, TakesAs, CycleAs};
 ghost use Rattle.session.specs.Inside.Goings.{GoesAs, Fresh, AllOf};
 use cells::Coming;
 use cycles::Settled;
@@ -126,4 +127,69 @@ pub struct Session {
     pub count: usize,
     pub time: u64,
     pub cells: [u64; 1152],
+}
+
+pub struct Posted {
+    pub ok: bool,
+    pub session: Session,
+}
+
+pub struct Took {
+    pub woken: u64,
+    pub session: Session,
+}
+
+pub struct Cycled {
+    pub ran: Ran,
+    pub session: Session,
+}
+
+impl Session {
+    // Posts a value, 0 or 1, for a signal at a time.
+    pub fn post(mut self, signal: usize, time: u64, value: u64) -> Posted
+        requires { ⌜ FitHeld self ⌝ }
+        requires { ⌜ signal < self .count ⌝ }
+        requires { ⌜ time ≤ 2000000000000000000 ⌝ }
+        requires { ⌜ value ≤ 1 ⌝ }
+        ensures { λ r. ⌜ PostsAs self signal time (truth value) (r .ok) (r .session) ⌝ }
+    {
+        let ok = cells::post(&mut self.cells, signal, time, value);
+        Posted {
+            ok: ok,
+            session: self,
+        }
+    }
+
+    // Takes the changes of a time out, and says which processes that wakes; due says which signals have one.
+    pub fn take(mut self, table: &[u64], due: u64, time: u64) -> Took
+        requires { ⌜ FitHeld self ⌝ }
+        requires { ⌜ FitTableWords (now table) ⌝ }
+        requires { ⌜ self .count ≡ signalsOf (now table) ⌝ }
+        requires { ⌜ Due due time (sessionIn self .pending) ⌝ }
+        ensures { λ r. ⌜ TakesAs self time (r .session) ⌝ }
+    {
+        let woken = cycles::take_all(&mut self.cells, table, due, time);
+        Took {
+            woken: woken,
+            session: self,
+        }
+    }
+
+    // Runs a cycle at a time, with so many steps so far.
+    pub fn cycle(mut self, table: &[u64], due: u64, time: u64, already: u64) -> Cycled
+        requires { ⌜ FitHeld self ⌝ }
+        requires { ⌜ FitTableWords (now table) ⌝ }
+        requires { ⌜ self .count ≡ signalsOf (now table) ⌝ }
+        requires { ⌜ Due due time (sessionIn self .pending) ⌝ }
+        requires { ⌜ time ≤ 1000000000000000000 ⌝ }
+        requires { ⌜ already ≤ 900000000000000000 ⌝ }
+        ensures { λ r. ⌜ CycleAs (runners (decodeTable (now (table .entry)))) self time already (r .ran) (r .session) ⌝ }
+    {
+        let ran = cycles::cycle(&mut self.cells, table, due, time, already);
+        self.time = time;
+        Cycled {
+            ran: ran,
+            session: self,
+        }
+    }
 }
