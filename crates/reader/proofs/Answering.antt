@@ -1,0 +1,105 @@
+-- From the readers' answer to what the text gets.
+-- Assumes nothing.
+use Prim.Native.Nat.{ℕ, _+_, _<_, _≤_}
+use native.Mathlib.Omega.{arith}
+use mathlib.Core.Path.{_≡_, refl, sym, ap, _∙_, subst}
+use mathlib.Core.Bool.{Bool, true, false}
+use mathlib.Core.List.{List, [], _∷_, map}
+use lib.ListN.{length, getD, drop}
+use borrow.Author.Tests.{eq-eqb, ne-eqb, le-ltb}
+use Rattle.lexis.specs.declared.token.Refusal.the-variants.{At, Nowhere}
+use Rattle.lexis.specs.Token.{Placed, tokensOf, firstRefused}
+use Rattle.syntax.specs.Tree.{Design}
+use Rattle.syntax.specs.Sentence.{Verdict, accepted, refused3, refused4}
+use Rattle.syntax.proofs.Rows.{aDesign}
+use Rattle.syntax.proofs.Theorem.{run, read}
+use Rattle.names.specs.Roles.{designRoles}
+use Rattle.names.specs.Judge.{State, start, Judgement, fine, refused, onward, judged, judgedDesign}
+use Rattle.names.specs.Text.{mostBytes, Answer, accepts, refuses, tokens, starts, placeOf, Scanned, Gets}
+use Rattle.names.proofs.Answer.{answerTo, gets}
+use Rattle.ledger.specs.Inside.Standing.{Keeps}
+use Rattle.ledger.proofs.Keeping.{kept-fine, kept-refused}
+use Rattle.reader.specs.declared.Spot.{Spot}
+use Rattle.reader.specs.declared.design.Checked.{Checked}
+use Rattle.reader.specs.declared.design.Checked.the-variants.{Accepted, Refused}
+use Rattle.reader.specs.Answers.{Answers}
+use Rattle.reader.specs.Inside.Spots.{tokensFrom, startsFrom, placedVerdict, machine, denied, verdict, judgement}
+use Rattle.reader.specs.Inside.Designs.{designOf, beginning, Designed}
+
+onward-fine : (j : Judgement) → onward j (λ y. fine y) ≡ j
+onward-fine (fine y) = refl
+onward-fine (refused n p) = refl
+
+abbrev tagOf : Verdict Design → ℕ
+tagOf (accepted d) = 0
+tagOf (refused3 k) = 1
+tagOf (refused4 k) = 2
+
+placed-accepted : (e : ℕ) (ps : List ℕ) (v : Verdict Design) (d : Design) → placedVerdict e ps v ≡ accepted d → v ≡ accepted d
+placed-accepted e ps (accepted x) d h = h
+placed-accepted e ps (refused3 k) d h = let z : _≡_ {A = ℕ} 1 0 = ap tagOf h in absurd (omega arith)
+placed-accepted e ps (refused4 k) d h = let z : _≡_ {A = ℕ} 2 0 = ap tagOf h in absurd (omega arith)
+
+module _ (s : List ℕ) (scanned : Scanned s) where
+  -- the machine from the start of the text is the reader of its tokens
+  from-start : verdict s beginning (aDesign ∷ []) (λ vs. vs .0) ≡ placedVerdict (length s) (starts s) (read (tokens s))
+  unfolding verdict machine read tokensOf
+  from-start = refl
+
+  module _ {q : Spot} {l l′ : List ℕ} (d : Designed s q l l′) where
+    refuses-3 : (v : Verdict Design) (p : ℕ) → read (tokens s) ≡ v → placedVerdict (length s) (starts s) v ≡ refused3 p → answerTo s ≡ refuses 3 p
+    unfolding answerTo
+    refuses-3 (accepted x) p r h = let z : _≡_ {A = ℕ} 0 1 = ap tagOf h in absurd (omega arith)
+    refuses-3 (refused3 k) p r h = let e : placeOf s k ≡ p = cc in rw (le-ltb mostBytes (length s) (scanned .short), scanned .lexical, r, e)
+    refuses-3 (refused4 k) p r h = let z : _≡_ {A = ℕ} 2 1 = ap tagOf h in absurd (omega arith)
+
+    refuses-4 : (v : Verdict Design) (p : ℕ) → read (tokens s) ≡ v → placedVerdict (length s) (starts s) v ≡ refused4 p → answerTo s ≡ refuses 4 p
+    unfolding answerTo
+    refuses-4 (accepted x) p r h = let z : _≡_ {A = ℕ} 0 2 = ap tagOf h in absurd (omega arith)
+    refuses-4 (refused3 k) p r h = let z : _≡_ {A = ℕ} 1 2 = ap tagOf h in absurd (omega arith)
+    refuses-4 (refused4 k) p r h = let e : placeOf s k ≡ p = cc in rw (le-ltb mostBytes (length s) (scanned .short), scanned .lexical, r, e)
+
+    pub answer-deep : q .number ≡ 4 → Answers s (Refused 4 (q .at))
+    unfolding verdict
+    answer-deep k =
+        let h : placedVerdict (length s) (starts s) (read (tokens s)) ≡ refused4 (q .at) = sym from-start ∙ d .moves ∙ rw k in
+        subst (Gets s) (refuses-4 (read (tokens s)) (q .at) refl h) (gets s)
+
+    pub answer-stuck : (q .number ≡ 4 → ⊥) → (q .number ≡ 0 → ⊥) → Answers s (Refused 3 (q .at))
+    unfolding verdict
+    answer-stuck k g =
+        let h : placedVerdict (length s) (starts s) (read (tokens s)) ≡ refused3 (q .at) = sym from-start ∙ d .moves ∙ rw (ne-eqb (q .number) 0 g, ne-eqb (q .number) 4 k) in
+        subst (Gets s) (refuses-3 (read (tokens s)) (q .at) refl h) (gets s)
+
+    module _ (f : q .number ≡ 0) where
+      abbrev tree : Design
+      tree = designOf (d .entity) (d .word) (d .closed) (d .behind)
+
+      pub read-accepts : read (tokens s) ≡ accepted tree
+      unfolding verdict machine
+      read-accepts = placed-accepted (length s) (starts s) (read (tokens s)) tree (sym from-start ∙ d .moves ∙ rw (eq-eqb (q .number) 0 f, d .ends f))
+
+      -- what the judge says of the whole text is what the ledger keeps
+      pub judged-all : d .judges f .after (fine start) ≡ judgedDesign tree (starts s)
+      unfolding judgement judged tokensOf
+      judged-all = sym (onward-fine (d .judges f .after (fine start))) ∙ sym (d .judges f .folds (fine start) [])
+
+      refused-answer : {n p : ℕ} → judgedDesign tree (starts s) ≡ refused n p → answerTo s ≡ refuses n p
+      unfolding answerTo
+      refused-answer j = rw (le-ltb mostBytes (length s) (scanned .short), scanned .lexical, read-accepts, j)
+
+      module _ (k : Keeps 0 s l (fine start)) where
+        pub keeps-all : Keeps 0 s l′ (judgedDesign tree (starts s))
+        keeps-all = subst (Keeps 0 s l′) judged-all (d .judges f .keeps (fine start) k)
+
+        pub answer-judged : (getD l′ 0 0 ≡ 0 → ⊥) → Answers s (Refused (getD l′ 0 0) (getD l′ 1 0))
+        answer-judged g = subst (Gets s) (refused-answer (kept-refused keeps-all g)) (gets s)
+
+        pub accepts-tree : getD l′ 0 0 ≡ 0 → answerTo s ≡ accepts tree
+        unfolding answerTo
+        accepts-tree g =
+            let j = kept-fine keeps-all g in
+            rw (le-ltb mostBytes (length s) (scanned .short), scanned .lexical, read-accepts, j .1)
+
+        pub answer-accepted : getD l′ 0 0 ≡ 0 → Answers s Accepted
+        answer-accepted g = (tree, subst (Gets s) (accepts-tree g) (gets s))

@@ -1,0 +1,42 @@
+-- `reader::design::check` meets its contract: each return by its law.
+-- Assumes nothing.
+use Prim.Native.Nat.{ℕ, _+_, _-_, _*_, _<_, _≤_}
+use mathlib.Core.Path.{_≡_, refl, sym, ap, _∙_}
+use native.Mathlib.Omega.{arith}
+use borrow.Author.Needs.{needs}
+use Rattle.names.specs.Text.{tooLong, notLexical}
+use Rattle.reader.proofs.design.check.Statement.{statement}
+use Rattle.reader.proofs.design.check.Tie as tie
+
+returns : tie.Need-returns
+returns c = tooLong (c .if1 .taken)
+
+first-refused-requires : tie.Need-first-refused-requires
+first-refused-requires c κs = search needs
+
+enum-known-place : tie.Need-enum-known-place
+enum-known-place c = search needs
+
+enum-told : tie.Need-enum-told
+enum-told c = search needs
+
+judged-requires : tie.Need-judged-requires
+judged-requires c κs = record { short = c .before .before .before .if1 .left; lexical = sym (c .before .before .first-refused .ensures) ∙ c .enum-told .given .1 }
+
+returns-2 : tie.Need-returns-2
+returns-2 c = notLexical (c .before .before .before .before .if1 .left) (sym (c .before .before .before .first-refused .ensures) ∙ c .before .place .given .1)
+
+returns-3 : tie.Need-returns-3
+returns-3 c = c .judged .ensures
+
+pub check-spec : {M : Type 1} → statement M
+check-spec =
+    tie.close
+    (tie.spec
+    returns
+    first-refused-requires
+    enum-known-place
+    enum-told
+    judged-requires
+    returns-2
+    returns-3)

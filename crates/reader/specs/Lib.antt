@@ -1,0 +1,3 @@
+-- What the readers of a text answer.
+pub mod Answers
+pub mod Inside

@@ -1,0 +1,191 @@
+// Expressions. Expression, factor and primary call each other in a cycle; the nesting room falls with each bracket.
+use crate::Spot;
+use crate::emission::binary;
+use crate::emission::emit;
+use crate::word;
+use ledger::count;
+use ledger::read_signal;
+use look::Look;
+use look::peek;
+ghost use mathlib.Core.Path.{_≡_};
+ghost use Prim.Native.Nat.{_≤_, _<_};
+ghost use lib.ListN.{length};
+ghost use Rattle.syntax.proofs.Rows.{aPrimary, aFactor};
+ghost use Rattle.names.specs.Roles.{primaryRoles, factorRoles};
+ghost use Rattle.ledger.specs.Inside.Standing.{Sound};
+ghost use Rattle.look.specs.Inside.Looks.{chainOf};
+ghost use Rattle.reader.specs.Inside.Reading.{Ready, Reads, whole, anExpression, aTail, aMore};
+
+// A name, a literal, or an expression in brackets.
+pub fn primary(
+    text: &[u8],
+    ledger: &mut [u64; 328],
+    table: &mut [u64],
+    p: Spot,
+    room: usize,
+) -> Spot
+    requires { ⌜ Ready 0 (now text) p (now ledger) ⌝ }
+    ensures { λ r. ⌜ Reads (whole aPrimary primaryRoles) (now (text .entry)) room p r (now (ledger .entry)) (now (ledger .exit)) ⌝ }
+{
+    if p.number != 0 {
+        return p;
+    }
+    let t = peek(text, p.at);
+    if t.kind == Look::NAME {
+        let k = read_signal(text, ledger, t.start, t.end);
+        let n = emit(table, p.next, (16 * k) as u64, 0);
+        return Spot {
+            number: 0,
+            at: t.end,
+            next: n,
+        };
+    }
+    if t.kind == Look::TRUE {
+        count(ledger, 1, t.start);
+        let n = emit(table, p.next, 17, 0);
+        return Spot {
+            number: 0,
+            at: t.end,
+            next: n,
+        };
+    }
+    if t.kind == Look::FALSE {
+        count(ledger, 1, t.start);
+        let n = emit(table, p.next, 1, 0);
+        return Spot {
+            number: 0,
+            at: t.end,
+            next: n,
+        };
+    }
+    if t.kind != Look::OPEN {
+        return Spot {
+            number: 3,
+            at: t.start,
+            next: p.next,
+        };
+    }
+    if room == 0 {
+        return Spot {
+            number: 4,
+            at: t.start,
+            next: p.next,
+        };
+    }
+    let opened = Spot {
+        number: 0,
+        at: t.end,
+        next: p.next,
+    };
+    let q = expression(text, ledger, table, opened, room - 1);
+    word(text, q, Look::CLOSE)
+}
+
+pub fn factor(text: &[u8], ledger: &mut [u64; 328], table: &mut [u64], p: Spot, room: usize) -> Spot
+    requires { ⌜ Ready 0 (now text) p (now ledger) ⌝ }
+    ensures { λ r. ⌜ Reads (whole aFactor factorRoles) (now (text .entry)) room p r (now (ledger .entry)) (now (ledger .exit)) ⌝ }
+{
+    if p.number != 0 {
+        return p;
+    }
+    let t = peek(text, p.at);
+    if t.kind != Look::NOT {
+        return primary(text, ledger, table, p, room);
+    }
+    count(ledger, 1, t.start);
+    let here = Spot {
+        number: 0,
+        at: t.end,
+        next: p.next,
+    };
+    let q = primary(text, ledger, table, here, room);
+    let n = emit(table, q.next, 2, 0);
+    Spot {
+        number: q.number,
+        at: q.at,
+        next: n,
+    }
+}
+
+pub fn expression(
+    text: &[u8],
+    ledger: &mut [u64; 328],
+    table: &mut [u64],
+    p: Spot,
+    room: usize,
+) -> Spot
+    requires { ⌜ Ready 0 (now text) p (now ledger) ⌝ }
+    ensures { λ r. ⌜ Reads anExpression (now (text .entry)) room p r (now (ledger .entry)) (now (ledger .exit)) ⌝ }
+{
+    let q = factor(text, ledger, table, p, room);
+    tail(text, ledger, table, q, room)
+}
+
+// What follows the first factor.
+pub fn tail(text: &[u8], ledger: &mut [u64; 328], table: &mut [u64], p: Spot, room: usize) -> Spot
+    requires { ⌜ Ready 0 (now text) p (now ledger) ⌝ }
+    ensures { λ r. ⌜ Reads aTail (now (text .entry)) room p r (now (ledger .entry)) (now (ledger .exit)) ⌝ }
+{
+    if p.number != 0 {
+        return p;
+    }
+    let t = peek(text, p.at);
+    if t.kind < Look::NAND {
+        return p;
+    }
+    if Look::TRUE <= t.kind {
+        return p;
+    }
+    count(ledger, 1, t.start);
+    let here = Spot {
+        number: 0,
+        at: t.end,
+        next: p.next,
+    };
+    let q = factor(text, ledger, table, here, room);
+    let n = emit(table, q.next, binary(t.kind), 0);
+    let joined = Spot {
+        number: q.number,
+        at: q.at,
+        next: n,
+    };
+    if t.kind < Look::AND {
+        return joined;
+    }
+    chain(text, ledger, table, joined, room, t.kind)
+}
+
+// More factors, joined by the same word.
+pub fn chain(
+    text: &[u8],
+    ledger: &mut [u64; 328],
+    table: &mut [u64],
+    first: Spot,
+    room: usize,
+    kind: usize,
+) -> Spot
+    requires { ⌜ Ready 0 (now text) first (now ledger) × (18 ≤ kind) × (kind < 22) ⌝ }
+    ensures { λ r. ⌜ Reads (aMore (chainOf kind)) (now (text .entry)) room first r (now (ledger .entry)) (now (ledger .exit)) ⌝ }
+{
+    let mut p = first;
+    while p.number == 0 {
+        let t = peek(text, p.at);
+        if t.kind != kind {
+            return p;
+        }
+        count(ledger, 1, t.start);
+        let here = Spot {
+            number: 0,
+            at: t.end,
+            next: p.next,
+        };
+        let q = factor(text, ledger, table, here, room);
+        let n = emit(table, q.next, binary(kind), 0);
+        p = Spot {
+            number: q.number,
+            at: q.at,
+            next: n,
+        };
+    }
+    p
+}
