@@ -70,8 +70,10 @@ static void any_name(struct random *r, char *name)
         name[i] = more[below(r, single ? 37 : 36)];
     }
     name[length] = 0;
-    if (once_in(r, 6)) /* nearly a word of the vocabulary */
-        snprintf(name, NAME_BYTES, "%s%c", vocabulary[below(r, VOCABULARY_WORDS)], more[below(r, 36)]);
+    if (once_in(r, 6)) { /* nearly a word of the vocabulary */
+        const char *word = vocabulary[below(r, VOCABULARY_WORDS)];
+        snprintf(name, NAME_BYTES, "%s%c", word, more[below(r, 36)]);
+    }
 }
 
 static int is_vocabulary(const char *word)
@@ -162,7 +164,9 @@ static void any_delay(struct maker *m)
         return;
     amount = below(m->r, once_in(m->r, 6) ? 100 : 12);
     if (m->shape->wild_delays && once_in(m->r, 2))
-        amount = once_in(m->r, 4) ? most : below(m->r, most + 1) >> below(m->r, 60);
+        amount = once_in(m->r, 4) ? most : below(m->r, most + 1);
+    if (m->shape->wild_delays && once_in(m->r, 2))
+        amount >>= below(m->r, 60);
     if (m->shape->wild_delays && amount > most)
         amount = most;
     snprintf(digits, sizeof digits, "%0*llu", once_in(m->r, 8) ? (int)below(m->r, 40) : 1, (unsigned long long)amount);

@@ -113,8 +113,11 @@ static size_t about(size_t needed, size_t most)
 
 static struct lengths any_lengths(void)
 {
-    struct lengths l = {about(exact.table, TABLE_MOST), about(exact.session, SESSION_MOST), about(exact.out, OUT_MOST),
-                        about(exact.report, REPORT_MOST)};
+    struct lengths l;
+    l.table = about(exact.table, TABLE_MOST);
+    l.session = about(exact.session, SESSION_MOST);
+    l.out = about(exact.out, OUT_MOST);
+    l.report = about(exact.report, REPORT_MOST);
     return l;
 }
 
@@ -212,6 +215,12 @@ static uint64_t any_stop(const uint64_t *session)
     case 5: return below(&r, LAST + 1);
     default: return LAST;
     }
+}
+
+static void check_any_advance(const uint64_t *table, const uint64_t *session)
+{
+    uint64_t stop = any_stop(session);
+    check_advance(table, session, stop, any_lengths());
 }
 
 static void lengthen(uint64_t *long_words, const uint64_t *words, size_t count, size_t most)
@@ -433,7 +442,7 @@ static void case_damaged_words(void)
         if (once_in(&r, 4))
             damage_words(&r, damaged_table, TABLE_MOST);
         check_start(damaged_table, any_lengths());
-        check_advance(damaged_table, damaged_session, any_stop(session), any_lengths());
+        check_any_advance(damaged_table, damaged_session);
     }
 }
 
@@ -446,11 +455,11 @@ static void case_random_words(void)
     for (size_t k = 0; k < SESSION_MOST; k++)
         session[k] = any_word(&r) & mask;
     check_start(table, any_lengths());
-    check_advance(table, session, any_stop(session), any_lengths());
+    check_any_advance(table, session);
     any_table(table);
-    check_advance(table, session, any_stop(session), any_lengths());
+    check_any_advance(table, session);
     any_session(table, session);
-    check_advance(table, session, any_stop(session), any_lengths());
+    check_any_advance(table, session);
 }
 
 /* One case damages one word of a table, and where there is such a word, of a session: all words in turn, many times over. */
@@ -487,7 +496,7 @@ static void case_short_buffers(void)
     any_table(table);
     any_session(table, session);
     if (once_in(&r, 3))
-        *turn[below(&r, 4)] = (size_t)below(&r, 4);
+        *turn[below(&r, 4)] = 2;
     if (once_in(&r, 3))
         damage_words(&r, table, TABLE_WORDS);
     if (once_in(&r, 3))

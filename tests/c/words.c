@@ -39,6 +39,12 @@ static uint64_t any_delay(struct random *r)
     return once_in(r, 10) ? below(r, LONGEST + 1) : below(r, 9);
 }
 
+static void emit_assignment(struct builder *b)
+{
+    uint64_t target = b->targets[below(b->r, b->target_count)];
+    emit(b, ASSIGN, target, any_delay(b->r));
+}
+
 static void emit_jump(struct builder *b, uint64_t kind)
 {
     if (kind == TEST && b->height >= 0)
@@ -78,7 +84,7 @@ static void push(struct builder *b)
 static void pop(struct builder *b)
 {
     if (b->target_count && !once_in(b->r, 3))
-        emit(b, ASSIGN, b->targets[below(b->r, b->target_count)], any_delay(b->r));
+        emit_assignment(b);
     else if (b->height >= 2 && once_in(b->r, 2))
         emit(b, between(b->r, AND, XNOR), 0, 0);
     else
@@ -91,7 +97,7 @@ static void unreached_instruction(struct builder *b)
 {
     uint64_t choice = below(b->r, 4);
     if (choice == 0 && b->target_count)
-        emit(b, ASSIGN, b->targets[below(b->r, b->target_count)], any_delay(b->r));
+        emit_assignment(b);
     else if (choice == 1)
         emit(b, between(b->r, TEST, SKIP), b->table[2] + 1, 0);
     else if (choice == 2)
