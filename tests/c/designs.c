@@ -79,7 +79,7 @@ static void any_name(struct random *r, char *name)
 static int is_vocabulary(const char *word)
 {
     for (int k = 0; vocabulary[k]; k++)
-        if (strcmp(word, vocabulary[k]) == 0)
+        if (word[0] == vocabulary[k][0] && strcmp(word, vocabulary[k]) == 0)
             return 1;
     return 0;
 }
