@@ -489,14 +489,25 @@ void damage_tokens(struct random *r, struct tokens *tokens)
     }
 }
 
+enum sort { NAME, INTEGER, TARGET };
+
+static int is_sort(const struct tokens *tokens, size_t k, enum sort sort)
+{
+    const char *token = token_at(tokens, k);
+    int name = token[0] >= 'a' && token[0] <= 'z' && !is_vocabulary(token);
+    switch (sort) {
+    case NAME: return name;
+    case INTEGER: return token[0] >= '0' && token[0] <= '9';
+    default: return name && k + 1 < tokens->count && strcmp(token_at(tokens, k + 1), "<=") == 0;
+    }
+}
+
 /* A token of this sort at a random place, or the number of tokens. */
-static size_t find(struct random *r, const struct tokens *tokens, int integer)
+static size_t find(struct random *r, const struct tokens *tokens, enum sort sort)
 {
     for (int tries = 0; tries < 200; tries++) {
         size_t k = (size_t)below(r, tokens->count);
-        const char *token = token_at(tokens, k);
-        int digit = token[0] >= '0' && token[0] <= '9';
-        if (integer ? digit : token[0] >= 'a' && token[0] <= 'z' && !is_vocabulary(token))
+        if (is_sort(tokens, k, sort))
             return k;
     }
     return tokens->count;
@@ -506,13 +517,16 @@ void damage_names(struct random *r, struct tokens *tokens)
 {
     static const char *const amounts[] = {"1", "17", "1000", "1001", "1000000", "16666666666666667", "1000000000000000000",
                                           "1000000000000000001", "18446744073709551616", "99999999999999999999999999999999999999999"};
-    int integer = once_in(r, 5);
-    size_t k = find(r, tokens, integer), j = find(r, tokens, 0);
+    enum sort sort = once_in(r, 5) ? INTEGER : once_in(r, 3) ? TARGET : NAME;
+    size_t k = find(r, tokens, sort), j = find(r, tokens, sort == INTEGER ? NAME : sort);
     char word[NAME_BYTES];
     if (k == tokens->count || j == tokens->count)
         return;
     any_name(r, word);
-    tokens->at[k] = integer ? keep(tokens, amounts[below(r, 10)]) : once_in(r, 6) ? keep(tokens, word) : tokens->at[j];
+    if (sort == INTEGER)
+        tokens->at[k] = keep(tokens, amounts[below(r, 10)]);
+    else
+        tokens->at[k] = once_in(r, 6) ? keep(tokens, word) : tokens->at[j];
 }
 
 void damage_text(struct random *r, struct text *text)
