@@ -513,6 +513,22 @@ static size_t find(struct random *r, const struct tokens *tokens, enum sort sort
     return tokens->count;
 }
 
+/* Puts a closing name behind some `end`, `process` where none stands. */
+static void close_with(struct random *r, struct tokens *tokens, uint32_t name)
+{
+    for (int tries = 0; tries < 200; tries++) {
+        size_t k = (size_t)below(r, tokens->count), n = tokens->count;
+        if (k < 2 || n + 1 >= TOKENS_ROOM || strcmp(token_at(tokens, k), ";") != 0)
+            continue;
+        if (strcmp(token_at(tokens, k - 1), "process") != 0 || strcmp(token_at(tokens, k - 2), "end") != 0)
+            continue;
+        memmove(tokens->at + k + 1, tokens->at + k, (n - k) * sizeof *tokens->at);
+        tokens->at[k] = name;
+        tokens->count++;
+        return;
+    }
+}
+
 void damage_names(struct random *r, struct tokens *tokens)
 {
     static const char *const amounts[] = {"1", "17", "1000", "1001", "1000000", "16666666666666667", "1000000000000000000",
@@ -525,6 +541,10 @@ void damage_names(struct random *r, struct tokens *tokens)
     any_name(r, word);
     if (sort == INTEGER)
         tokens->at[k] = keep(tokens, amounts[below(r, 10)]);
+    else if (once_in(r, 8))
+        close_with(r, tokens, tokens->at[j]);
+    else if (once_in(r, 6))
+        tokens->at[k] = keep(tokens, vocabulary[below(r, VOCABULARY_WORDS)]);
     else
         tokens->at[k] = once_in(r, 6) ? keep(tokens, word) : tokens->at[j];
 }

@@ -51,7 +51,7 @@ void write_text(struct random *r, const struct tokens *tokens, enum style style,
 void damage_tokens(struct random *r, struct tokens *tokens);
 void damage_text(struct random *r, struct text *text);
 
-/* A name becomes another name of the design or a new one, or an integer another. */
+/* A name becomes another name of the design, a new one or a word that is no name; a process gets a closing name; or an integer another value. */
 void damage_names(struct random *r, struct tokens *tokens);
 
 /* Any words of the vocabulary, names, integers and marks, one after another. */

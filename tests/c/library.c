@@ -391,7 +391,7 @@ static void case_long_text(void)
 static void case_made_table(void)
 {
     static uint64_t table[TABLE_MOST], session[SESSION_MOST];
-    make_table(&r, table);
+    make_table(&r, 34, table);
     lengthen(table, table, TABLE_WORDS, TABLE_MOST);
     uint64_t answer = check_start(table, any_lengths());
     if (answer % 256 == COMPASSNAIL_DONE) {
@@ -406,10 +406,10 @@ static void case_made_table(void)
     }
 }
 
-/* A table of a text or of none. */
+/* A table of a text or of none, some with an operand too many. */
 static void any_table(uint64_t *table)
 {
-    make_table(&r, table);
+    make_table(&r, 34 + (unsigned)below(&r, 2), table);
     if (once_in(&r, 2)) {
         make_any_design();
         write_text(&r, &tokens, TIGHT, &text);

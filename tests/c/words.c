@@ -17,6 +17,7 @@ struct builder {
     uint64_t *table;
     uint64_t process;
     uint64_t targets[64], target_count;
+    int most;   /* operands */
     int height; /* operands here, or UNREACHED */
     uint64_t jumps[JUMPS]; /* addresses of jumps that go nowhere yet, each with its operands */
     int jump_height[JUMPS];
@@ -36,6 +37,8 @@ static uint64_t any_delay(struct random *r)
         return 0;
     if (once_in(r, 12))
         return LONGEST - below(r, 3);
+    if (once_in(r, 5))
+        return between(r, 30, 90); /* behind what is pending in most sessions */
     return once_in(r, 10) ? below(r, LONGEST + 1) : below(r, 9);
 }
 
@@ -106,9 +109,9 @@ static void unreached_instruction(struct builder *b)
         push(b);
 }
 
-static void any_instruction(struct builder *b, int most)
+static void any_instruction(struct builder *b)
 {
-    uint64_t choice = below(b->r, 10);
+    uint64_t choice = b->most > 20 && b->height < b->most && !once_in(b->r, 3) ? 9 : below(b->r, 10);
     if (b->height < 0)
         unreached_instruction(b);
     else if (choice < 1 && b->jump_count < JUMPS)
@@ -122,7 +125,7 @@ static void any_instruction(struct builder *b, int most)
         b->height--;
     } else if (choice < 8 && b->height >= 1)
         pop(b);
-    else if (b->height < most)
+    else if (b->height < b->most)
         push(b);
 }
 
@@ -130,11 +133,10 @@ static void any_instruction(struct builder *b, int most)
 static void build_process(struct builder *b, uint64_t size)
 {
     uint64_t end = b->table[2] + size;
-    int most = once_in(b->r, 4) ? 34 : (int)between(b->r, 1, 6);
     b->height = 0;
     b->jump_count = 0;
     while (b->table[2] < end) {
-        any_instruction(b, most);
+        any_instruction(b);
         for (unsigned j = 0; j < b->jump_count; j++)
             if (once_in(b->r, 3))
                 land(b, j);
@@ -153,7 +155,7 @@ static void build_process(struct builder *b, uint64_t size)
     b->table[ENDS + b->process] = b->table[2];
 }
 
-void make_table(struct random *r, uint64_t *table)
+void make_table(struct random *r, unsigned operands, uint64_t *table)
 {
     static const uint64_t sizes[] = {0, 1, 2, 3, 5, 9, 33, 64};
     struct builder b;
@@ -176,6 +178,7 @@ void make_table(struct random *r, uint64_t *table)
         for (uint64_t k = 0; k < signals; k++)
             if (drivers[k] == b.process)
                 b.targets[b.target_count++] = k;
+        b.most = once_in(r, 4) ? (int)operands : (int)between(r, 1, 6);
         build_process(&b, table[2] < room ? below(r, once_in(r, 5) ? room - table[2] : 20) : 0);
     }
 }
@@ -193,7 +196,7 @@ void make_session(struct random *r, const uint64_t *table, uint64_t *session)
     session[0] = table[0];
     session[1] = once_in(r, 3) ? below(r, LONGEST + 1) : once_in(r, 4) ? LONGEST : below(r, 100);
     for (int k = 0; k < 24; k++) /* few times, so that several signals change at one */
-        offsets[k] = once_in(r, 20) ? LONGEST : 1 + below(r, spread);
+        offsets[k] = once_in(r, 8) ? LONGEST : 1 + below(r, spread);
     for (uint64_t k = 0; k < table[0]; k++) {
         uint64_t last = 0, *count = &session[66 + k];
         session[2 + k] = below(r, 2);
@@ -215,12 +218,13 @@ void make_session(struct random *r, const uint64_t *table, uint64_t *session)
 uint64_t near_word(struct random *r, uint64_t word)
 {
     static const uint64_t close_ones[] = {0, 1, 2, 16, 17, 63, 64, 65, 4096, 4097, LONGEST, LONGEST + 1, 2 * LONGEST, UINT64_MAX, UINT64_C(1) << 63};
-    switch (below(r, 6)) {
+    switch (below(r, 7)) {
     case 0: return word + 1;
     case 1: return word - 1;
     case 2: return word ^ UINT64_C(1) << below(r, 64);
     case 3: return word + 16 * between(r, 1, 3);
-    case 4: return close_ones[below(r, 15)];
+    case 4: return once_in(r, 2) ? word + 2 : word - 2;
+    case 5: return close_ones[below(r, 15)];
     default: return any_word(r);
     }
 }
@@ -228,8 +232,8 @@ uint64_t near_word(struct random *r, uint64_t word)
 void damage_words(struct random *r, uint64_t *words, size_t count)
 {
     size_t k = (size_t)below(r, count), j = (size_t)below(r, count);
-    if (once_in(r, 3))
-        k = (size_t)below(r, count < 260 ? count : 260);
+    for (int tries = once_in(r, 3) ? 0 : 2000; tries > 0 && words[k] == 0; tries--) /* rather one that is not zero */
+        k = (size_t)below(r, count);
     if (once_in(r, 5)) {
         uint64_t old = words[k];
         words[k] = words[j];
