@@ -11,7 +11,7 @@ pub enum Class {
     Space,
     // LF, VT, FF or CR: a blank that ends a comment.
     LineEnd,
-    // A byte that a mark or a comment can begin with, and `=`.
+    // A byte of a mark or of `--`.
     Mark,
     Other,
     // 128 or more: refused everywhere.

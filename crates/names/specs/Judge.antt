@@ -144,7 +144,7 @@ faults y (delays n u) = (8, ltb longest (n * femtosecondsOf u)) ∷ []
 faults y (counts k) = (10, overfull k y) ∷ []
 faults y passes = []
 
--- THE FOLD
+-- THE FOLD, which computes what THE SENTENCES below say: `decides` of proofs/Verdict
 
 pub data Judgement : Type 0 where
   fine : State → Judgement

@@ -21,7 +21,7 @@ valueFrom value (digit ∷ digits) = valueFrom (value * 10 + digitOf digit) digi
 abbrev pub valueOf : List ℕ → ℕ
 valueOf digits = valueFrom 0 digits
 
--- no delay, stop or limit is above 10^18
+-- no delay or stop is above 10^18
 abbrev pub largest : ℕ
 largest = 10 ^ 18
 
