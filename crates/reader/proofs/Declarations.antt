@@ -19,15 +19,15 @@ use Rattle.names.specs.Roles.{Role, declares, passes}
 use Rattle.look.specs.declared.Look.{Look}
 use Rattle.look.specs.Inside.Looks.{part, nameAt, lookOf, tokenOfKind, tokenOfLook, literalOf}
 use Rattle.look.proofs.Looks.{There, View, seen, seen-there}
-use Rattle.look.proofs.Numbers.{takenBy, misfit, literal-token}
+use Rattle.look.proofs.Numbers.{takenBy, misfit, literal-token, name-seen, fixed-seen}
 use Rattle.ledger.specs.Inside.Standing.{Judges}
 use Rattle.reader.specs.declared.Spot.{Spot}
 use Rattle.reader.specs.Inside.Spots.{verdict, past, unfit, wordOf}
 use Rattle.reader.specs.Inside.Reading.{What, whole, given, declaresRoles, initialRoles, moreSignalsRoles, signalsRoles, theName, Named, Reads}
 use Rattle.reader.proofs.Moves.{some-moves, stuck-moves, same-moves}
 use Rattle.reader.proofs.Judging.{then-judged, token-judged, passes-judged}
-use Rattle.reader.proofs.Words.{word-token, worded, only-word}
-use Rattle.reader.proofs.Generic.{near, within-text, name-of, reads-off, reads-stuck}
+use Rattle.reader.proofs.Words.{worded, only-word}
+use Rattle.reader.proofs.Generic.{near, within-text, reads-off, reads-stuck}
 
 module _ {s : List ℕ} {p : Spot} {t : Look} (h : p .at ≤ length s) (f : p .number ≡ 0) (e : t ≡ lookOf s (p .at)) where
   -- NAMES
@@ -42,7 +42,7 @@ module _ {s : List ℕ} {p : Spot} {t : Look} (h : p .at ≤ length s) (f : p .n
         fine = λ _. f;
         ahead = omega (arith, x .after, x .some);
         inside = x .inside;
-        moves = λ c ss m u. some-moves s p f n aName x record { push = []; build = λ _. nameAt s (t .start) (t .end) } (ap (next aName) (name-of s t k)) ss m (omega arith);
+        moves = λ c ss m u. some-moves s p f n aName x record { push = []; build = λ _. nameAt s (t .start) (t .end) } (ap (next aName) (name-seen s t k)) ss m (omega arith);
         judges = λ _. token-judged x n (role (nameAt s (t .start) (t .end))) j;
       }
 
@@ -57,7 +57,7 @@ module _ {s : List ℕ} {p : Spot} {t : Look} (h : p .at ≤ length s) (f : p .n
         fine = λ _. f;
         ahead = omega (arith, x .after, x .some);
         inside = x .inside;
-        moves = λ c ss m u. some-moves s p f n aName x record { push = []; build = λ _. nameAt s (t .start) (t .end) } (ap (next aName) (name-of s t k)) ss m (omega arith);
+        moves = λ c ss m u. some-moves s p f n aName x record { push = []; build = λ _. nameAt s (t .start) (t .end) } (ap (next aName) (name-seen s t k)) ss m (omega arith);
         judges = λ _. passes-judged x n;
       }
 
@@ -103,7 +103,7 @@ module _ {s : List ℕ} {p : Spot} {t : Look} (h : p .at ≤ length s) (f : p .n
           fine = λ _. f;
           ahead = omega (arith, x .after, x .some, near v (x .inside));
           inside = within-text v;
-          moves = λ c ss m u. some-moves s p f n initialValue x record { push = aLiteral ∷ theWord SEMICOLON ∷ []; build = λ ws. some (ws .0) } (ap (next initialValue) (word-token s t BECOMES k)) ss m (omega arith)
+          moves = λ c ss m u. some-moves s p f n initialValue x record { push = aLiteral ∷ theWord SEMICOLON ∷ []; build = λ ws. some (ws .0) } (ap (next initialValue) (fixed-seen s t BECOMES k)) ss m (omega arith)
               ∙ stuck-moves s (past t n) refl n aLiteral v g (theWord SEMICOLON ∷ ss) ss _ (λ us. m (none, us));
           judges = λ z. absurd (omega (arith, z));
         }
@@ -124,7 +124,7 @@ module _ {s : List ℕ} {p : Spot} {t : Look} (h : p .at ≤ length s) (f : p .n
           fine = λ _. f;
           ahead = omega (arith, x .after, x .some, x2 .after, x2 .some, w .ahead);
           inside = w .inside;
-          moves = λ c ss m u. some-moves s p f n initialValue x record { push = aLiteral ∷ theWord SEMICOLON ∷ []; build = λ ws. some (ws .0) } (ap (next initialValue) (word-token s t BECOMES k)) ss m (omega arith)
+          moves = λ c ss m u. some-moves s p f n initialValue x record { push = aLiteral ∷ theWord SEMICOLON ∷ []; build = λ ws. some (ws .0) } (ap (next initialValue) (fixed-seen s t BECOMES k)) ss m (omega arith)
               ∙ some-moves s (past t n) refl n aLiteral x2 record { push = []; build = λ _. literalOf (i .kind) } (ap (next aLiteral) (literal-token (part s (i .start) (i .end)) (i .kind) lo (omega arith))) (theWord SEMICOLON ∷ ss) _ (omega arith)
               ∙ w .moves (theWord SEMICOLON) record { push = []; build = λ _. tt } refl (only-word s (past i n) SEMICOLON) ss _ (omega arith);
           judges = λ z. then-judged (passes-judged x n) (then-judged (passes-judged x2 n) (w .judges z));
@@ -160,7 +160,7 @@ module _ {s : List ℕ} {p : Spot} {t : Look} (h : p .at ≤ length s) (f : p .n
         fine = λ _. f;
         ahead = omega (arith, x .after, x .some, d .ahead, o .ahead);
         inside = o .inside;
-        moves = λ c ss m u. some-moves s p f n moreSignals x record { push = aName ∷ moreSignals ∷ []; build = λ ws. (ws .0 ∷ ws .1 .0 .0, ws .1 .0 .1) } (ap (next moreSignals) (word-token s t COMMA k)) ss m (omega arith)
+        moves = λ c ss m u. some-moves s p f n moreSignals x record { push = aName ∷ moreSignals ∷ []; build = λ ws. (ws .0 ∷ ws .1 .0 .0, ws .1 .0 .1) } (ap (next moreSignals) (fixed-seen s t COMMA k)) ss m (omega arith)
             ∙ d .moves tt (moreSignals ∷ ss) _ (omega arith) ∙ o .moves tt ss _ (omega arith);
         judges = λ z. then-judged (passes-judged x n) (then-judged (d .judges (o .fine z)) (o .judges z));
       }
@@ -190,7 +190,7 @@ module _ {s : List ℕ} {p : Spot} {t : Look} (h : p .at ≤ length s) (f : p .n
         ahead = omega (arith, x .after, x .some, d .ahead, o .ahead, i .ahead);
         inside = i .inside;
         moves = λ c ss m u. some-moves s p f n signals x record { push = aName ∷ moreSignals ∷ signals ∷ []; build = λ ws. declaration (ws .0) (ws .1 .0 .0) (ws .1 .0 .1) ∷ ws .1 .1 .0 }
-            (ap (next signals) (word-token s t SIGNAL k)) ss m (omega arith)
+            (ap (next signals) (fixed-seen s t SIGNAL k)) ss m (omega arith)
             ∙ d .moves tt (moreSignals ∷ signals ∷ ss) _ (omega arith) ∙ o .moves tt (signals ∷ ss) _ (omega arith) ∙ i .moves tt ss _ (omega arith);
         judges = λ z.
             let fq = i .fine z in

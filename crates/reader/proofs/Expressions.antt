@@ -23,15 +23,15 @@ use Rattle.names.specs.Judge.{Judgement}
 use Rattle.look.specs.declared.Look.{Look}
 use Rattle.look.specs.Inside.Looks.{part, nameAt, lookOf, tokenOfKind, tokenOfLook, onceOf, chainOf, literalOf}
 use Rattle.look.proofs.Looks.{There, View, there, gone, seen, seen-there}
-use Rattle.look.proofs.Numbers.{fixedKind, chainKind, chain-kind, misfit, once-token, chain-token, literal-token}
+use Rattle.look.proofs.Numbers.{fixedKind, chainKind, chain-kind, misfit, once-token, chain-token, literal-token, name-seen, fixed-seen}
 use Rattle.ledger.specs.Inside.Standing.{Judges}
 use Rattle.reader.specs.declared.Spot.{Spot}
 use Rattle.reader.specs.Inside.Spots.{tokensFrom, machine, verdict, Judged, past, unfit, deep, wordOf}
 use Rattle.reader.specs.Inside.Reading.{What, whole, anExpression, aTail, aMore, Reads}
 use Rattle.reader.proofs.Moves.{off, some-moves, deep-moves, same-moves}
 use Rattle.reader.proofs.Judging.{none-judged, then-judged, token-judged, passes-judged}
-use Rattle.reader.proofs.Words.{Only, word-token, worded}
-use Rattle.reader.proofs.Generic.{name-of, reads-off, reads-stuck, addressed, reads-to, reads-from}
+use Rattle.reader.proofs.Words.{worded}
+use Rattle.reader.proofs.Generic.{reads-off, reads-stuck, addressed, reads-to, reads-from}
 
 abbrev pub primary : What
 primary = whole aPrimary primaryRoles
@@ -62,7 +62,7 @@ module _ {s : List ℕ} {room : ℕ} {p : Spot} {l : List ℕ} {t : Look} (h : p
         fine = λ _. f;
         ahead = omega (arith, x .after, x .some);
         inside = x .inside;
-        moves = λ c ss m u. some-moves s p f n aPrimary x record { push = []; build = λ _. named (nameAt s (t .start) (t .end)) } (ap (next aPrimary) (name-of s t k)) ss m (omega arith);
+        moves = λ c ss m u. some-moves s p f n aPrimary x record { push = []; build = λ _. named (nameAt s (t .start) (t .end)) } (ap (next aPrimary) (name-seen s t k)) ss m (omega arith);
         judges = λ _. token-judged x n (reads (nameAt s (t .start) (t .end))) g;
       }
 
@@ -90,7 +90,7 @@ module _ {s : List ℕ} {room : ℕ} {p : Spot} {l : List ℕ} {t : Look} (h : p
         fine = λ _. f;
         ahead = x .after;
         inside = omega (arith, x .some, x .inside);
-        moves = λ c ss m u. deep-moves s p f n aPrimary x bracketStep (ap (next aPrimary) (word-token s t OPEN k)) ss ss m (λ us. m (named [], us)) (λ (g : 1 + weights weight ss ≤ 32). omega arith);
+        moves = λ c ss m u. deep-moves s p f n aPrimary x bracketStep (ap (next aPrimary) (fixed-seen s t OPEN k)) ss ss m (λ us. m (named [], us)) (λ (g : 1 + weights weight ss ≤ 32). omega arith);
         judges = λ z. absurd (omega (arith, z));
       }
 
@@ -104,7 +104,7 @@ module _ {s : List ℕ} {room : ℕ} {p : Spot} {l : List ℕ} {t : Look} (h : p
         fine = λ _. f;
         ahead = omega (arith, x .after, x .some, d .ahead, w .ahead);
         inside = w .inside;
-        moves = λ c ss m u. some-moves s p f n aPrimary x bracketStep (ap (next aPrimary) (word-token s t OPEN k)) ss m (omega arith)
+        moves = λ c ss m u. some-moves s p f n aPrimary x bracketStep (ap (next aPrimary) (fixed-seen s t OPEN k)) ss m (omega arith)
             ∙ d .moves inBrackets ss _ (omega arith)
             ∙ w .moves (anEnd inBrackets) record { push = []; build = λ _. tt } refl (λ _ small o. rw (ne-eqb _ 111 o)) ss _ (omega arith);
         judges = λ g. then-judged (passes-judged x n) (then-judged (d .judges (w .fine g)) (w .judges g));
@@ -134,7 +134,7 @@ module _ {s : List ℕ} {room : ℕ} {p : Spot} {l : List ℕ} {t : Look} (h : p
         fine = λ _. f;
         ahead = omega (arith, x .after, x .some, d .ahead);
         inside = d .inside;
-        moves = λ c ss o u. some-moves s p f n aFactor x record { push = aPrimary ∷ []; build = λ ws. negated (ws .0) } (ap (next aFactor) (word-token s t NOT k)) ss o (omega arith)
+        moves = λ c ss o u. some-moves s p f n aFactor x record { push = aPrimary ∷ []; build = λ ws. negated (ws .0) } (ap (next aFactor) (fixed-seen s t NOT k)) ss o (omega arith)
             ∙ d .moves c ss _ (omega arith);
         judges = λ z. then-judged (token-judged x n (counts 1) g) (d .judges z);
       }

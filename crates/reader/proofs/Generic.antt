@@ -7,16 +7,16 @@ use mathlib.Core.Bool.{Bool, true, false}
 use mathlib.Core.Option.{none}
 use mathlib.Core.List.{List, [], _∷_, _++_}
 use lib.ListN.{length}
-use Rattle.words.specs.Token.{Fixed, name}
+use Rattle.words.specs.Token.{Fixed}
 use Rattle.syntax.specs.Tree.{Design, expression, alone, enough, plain, named, done, null, unlisted, process}
 use Rattle.syntax.proofs.Machine.{Values, made}
 use Rattle.syntax.proofs.Rows.{Symbol, Value, rows}
 use Rattle.syntax.proofs.Laws.{fill, fill-closing}
 use Rattle.names.specs.Roles.{Role}
 use Rattle.look.specs.declared.Look.{Look}
-use Rattle.look.specs.Inside.Looks.{part, nameAt, lookOf, tokenOfKind, tokenOfLook}
+use Rattle.look.specs.Inside.Looks.{part, lookOf}
 use Rattle.look.proofs.Looks.{There, View, there, gone, seen, seen-there}
-use Rattle.look.proofs.Numbers.{fixedKind, takenBy, name-token}
+use Rattle.look.proofs.Numbers.{fixedKind, takenBy}
 use Rattle.ledger.specs.Inside.Standing.{Span, Sound, Held, Judges}
 use Rattle.reader.specs.declared.Spot.{Spot}
 use Rattle.reader.specs.Inside.Spots.{verdict, judgement, Judged, past, unfit, wordOf}
@@ -32,10 +32,6 @@ near (gone x) h = omega (arith, x .start)
 pub within-text : {s : List ℕ} {at : ℕ} {t : Look} → View s at t → t .start ≤ length s
 within-text (there x) = omega (arith, x .some, x .inside)
 within-text (gone x) = omega (arith, x .start)
-
-pub name-of : (s : List ℕ) (t : Look) → t .kind ≡ 108 → tokenOfLook s t ≡ name (nameAt s (t .start) (t .end))
-unfolding nameAt
-name-of s t e = ap (tokenOfKind (part s (t .start) (t .end))) e ∙ name-token (part s (t .start) (t .end))
 
 -- some tree, where a refusal leaves none
 filler : (w : What) → Tree w

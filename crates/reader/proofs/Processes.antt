@@ -20,7 +20,7 @@ use Rattle.names.specs.Roles.{Role, listens, labels, opens, passes, closes}
 use Rattle.look.specs.declared.Look.{Look}
 use Rattle.look.specs.Inside.Looks.{part, nameAt, lookOf, tokenOfKind, tokenOfLook}
 use Rattle.look.proofs.Looks.{There, View, there, gone, seen, seen-there}
-use Rattle.look.proofs.Numbers.{fixedKind, takenBy, misfit}
+use Rattle.look.proofs.Numbers.{fixedKind, takenBy, misfit, name-seen, fixed-seen}
 use Rattle.ledger.specs.Inside.Standing.{Judges, nameOption}
 use Rattle.ledger.proofs.Keeping.{unlabelled}
 use Rattle.reader.specs.declared.Spot.{Spot}
@@ -28,8 +28,8 @@ use Rattle.reader.specs.Inside.Spots.{verdict, Judged, past, unfit, word
 use Rattle.reader.specs.Inside.Reading.{What, whole, aList, aProcess, someStatements, listensRoles, moreListedRoles, beginningRoles, closingNameRoles, bodyRoles, processesEndRoles, closingPartRoles, Opens, Ready, Reads}
 use Rattle.reader.proofs.Moves.{off, some-moves, stuck-moves, same-moves}
 use Rattle.reader.proofs.Judging.{none-judged, then-judged, token-judged, passes-judged}
-use Rattle.reader.proofs.Words.{Only, word-token, Worded, worded, only-word}
-use Rattle.reader.proofs.Generic.{near, within-text, name-of, reads-off, reads-stuck}
+use Rattle.reader.proofs.Words.{Only, Worded, worded, only-word}
+use Rattle.reader.proofs.Generic.{near, within-text, reads-off, reads-stuck}
 use Rattle.reader.proofs.Statements.{onto-done, only-process}
 
 part-next : (u : Part) → next (closing u) (fixed (partWord u)) ≡ some record { push = closingName ∷ []; build = λ ws. (true, ws .0) }
@@ -61,7 +61,7 @@ module _ {s : List ℕ} {p : Spot} {t : Look} (h : p .at ≤ length s) (f : p .n
         fine = λ _. f;
         ahead = omega (arith, x .after, x .some, d .ahead, o .ahead);
         inside = o .inside;
-        moves = λ c ss m u. some-moves s p f n moreListed x record { push = aName ∷ moreListed ∷ []; build = λ ws. ws .0 ∷ ws .1 .0 } (ap (next moreListed) (word-token s t COMMA k)) ss m (omega arith)
+        moves = λ c ss m u. some-moves s p f n moreListed x record { push = aName ∷ moreListed ∷ []; build = λ ws. ws .0 ∷ ws .1 .0 } (ap (next moreListed) (fixed-seen s t COMMA k)) ss m (omega arith)
             ∙ d .moves tt (moreListed ∷ ss) _ (omega arith) ∙ o .moves tt ss _ (omega arith);
         judges = λ z. then-judged (passes-judged x n) (then-judged (d .judges (o .fine z)) (o .judges z));
       }
@@ -91,7 +91,7 @@ module _ {s : List ℕ} {p : Spot} {t : Look} (h : p .at ≤ length s) (f : p .n
         inside = o .inside;
         moves = λ c ss m u. some-moves s p f n processBody x
             record { push = aName ∷ moreListed ∷ beginning ∷ statements inProcess ∷ []; build = λ ws. (listed (ws .0) (ws .1 .0), (ws .1 .1 .0, ws .1 .1 .1 .0)) }
-            (ap (next processBody) (word-token s t OPEN k)) ss m (omega arith)
+            (ap (next processBody) (fixed-seen s t OPEN k)) ss m (omega arith)
             ∙ d .moves tt (moreListed ∷ beginning ∷ statements inProcess ∷ ss) _ (omega arith) ∙ o .moves tt (beginning ∷ statements inProcess ∷ ss) _ (omega arith);
         judges = λ z. then-judged (passes-judged x n) (then-judged (d .judges (o .fine z)) (o .judges z));
       }
@@ -120,7 +120,7 @@ module _ {s : List ℕ} {p : Spot} {t : Look} (h : p .at ≤ length s) (f : p .n
         fine = λ _. f;
         ahead = omega (arith, x .after, x .some, w .ahead);
         inside = w .inside;
-        moves = λ c ss m u. some-moves s p f n beginning x record { push = theWord BEGIN ∷ []; build = λ _. true } (ap (next beginning) (word-token s t IS k)) ss m (omega arith)
+        moves = λ c ss m u. some-moves s p f n beginning x record { push = theWord BEGIN ∷ []; build = λ _. true } (ap (next beginning) (fixed-seen s t IS k)) ss m (omega arith)
             ∙ w .moves (theWord BEGIN) record { push = []; build = λ _. tt } refl (only-word s (past t n) BEGIN) ss _ (omega arith);
         judges = λ z. then-judged (passes-judged x n) (w .judges z);
       }
@@ -150,7 +150,7 @@ module _ {s : List ℕ} {p : Spot} {t : Look} (h : p .at ≤ length s) (f : p .n
         fine = λ _. f;
         ahead = omega (arith, x .after, x .some, w .ahead);
         inside = w .inside;
-        moves = λ c ss m u. some-moves s p f n closingName x record { push = theWord SEMICOLON ∷ []; build = λ _. some (nameAt s (t .start) (t .end)) } (ap (next closingName) (name-of s t k)) ss m (omega arith)
+        moves = λ c ss m u. some-moves s p f n closingName x record { push = theWord SEMICOLON ∷ []; build = λ _. some (nameAt s (t .start) (t .end)) } (ap (next closingName) (name-seen s t k)) ss m (omega arith)
             ∙ w .moves (theWord SEMICOLON) record { push = []; build = λ _. tt } refl (only-word s (past t n) SEMICOLON) ss _ (omega arith);
         judges = λ z. then-judged (token-judged x n (closes o (nameAt s (t .start) (t .end))) j) (w .judges z);
       }
@@ -180,7 +180,7 @@ module _ {s : List ℕ} {p : Spot} {t : Look} (h : p .at ≤ length s) (f : p .n
         fine = λ _. f;
         ahead = omega (arith, x .after, x .some, d .ahead);
         inside = d .inside;
-        moves = λ c ss m i. some-moves s p f n (closing u) x record { push = closingName ∷ []; build = λ ws. (true, ws .0) } (ap (next (closing u)) (word-token s t (partWord u) k) ∙ part-next u) ss m (omega arith)
+        moves = λ c ss m i. some-moves s p f n (closing u) x record { push = closingName ∷ []; build = λ ws. (true, ws .0) } (ap (next (closing u)) (fixed-seen s t (partWord u) k) ∙ part-next u) ss m (omega arith)
             ∙ d .moves tt ss _ (omega arith);
         judges = λ z. then-judged (passes-judged x n) (d .judges z);
       }
@@ -256,7 +256,7 @@ module _ {s : List ℕ} {p : Spot} {t : Look} (h : p .at ≤ length s) (f : p .n
         inside = d .inside;
         moves = λ _ ss m u. some-moves s p f n processes x
             record { push = theWord COLON ∷ theWord PROCESS ∷ processBody ∷ processes ∷ []; build = λ ws. labelled (some (nameAt s (t .start) (t .end))) (ws .1 .1 .0) ∷ ws .1 .1 .1 .0 }
-            (ap (next processes) (name-of s t k)) ss m (omega arith)
+            (ap (next processes) (name-seen s t k)) ss m (omega arith)
             ∙ w1 .moves (theWord COLON) record { push = []; build = λ _. tt } refl (only-word s (past t n) COLON) (theWord PROCESS ∷ processBody ∷ processes ∷ ss) _ (omega arith)
             ∙ w2 .moves (theWord PROCESS) record { push = []; build = λ _. tt } refl (only-word s a PROCESS) (processBody ∷ processes ∷ ss) _ (omega arith)
             ∙ d .moves tt (processes ∷ ss) _ (omega arith);
@@ -293,7 +293,7 @@ module _ {s : List ℕ} {p : Spot} {t : Look} (h : p .at ≤ length s) (f : p .n
         fine = λ _. f;
         ahead = omega (arith, x .after, x .some);
         inside = x .inside;
-        moves = λ c ss m u. some-moves s p f n processes x record { push = []; build = λ _. [] } (ap (next processes) (word-token s t END k)) ss m (omega arith);
+        moves = λ c ss m u. some-moves s p f n processes x record { push = []; build = λ _. [] } (ap (next processes) (fixed-seen s t END k)) ss m (omega arith);
         judges = λ _. passes-judged x n;
       }
 

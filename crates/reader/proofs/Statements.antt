@@ -23,15 +23,15 @@ use Rattle.names.specs.Roles.{Role, assigns, counts, delays, passes}
 use Rattle.look.specs.declared.Look.{Look}
 use Rattle.look.specs.Inside.Looks.{part, nameAt, lookOf, tokenOfKind, tokenOfLook, unitOf}
 use Rattle.look.proofs.Looks.{There, View, there, gone, seen, seen-there}
-use Rattle.look.proofs.Numbers.{takenBy, misfit, unit-token, integer-token}
+use Rattle.look.proofs.Numbers.{takenBy, misfit, unit-token, name-seen, integer-seen, fixed-seen}
 use Rattle.ledger.specs.Inside.Standing.{Judges}
 use Rattle.reader.specs.declared.Spot.{Spot}
 use Rattle.reader.specs.Inside.Spots.{verdict, Judged, past, unfit, deep, wordOf, endIfOf, starter, Stops, Forward}
 use Rattle.reader.specs.Inside.Reading.{What, whole, anExpression, aStatement, someStatements, closes, onto, endingRoles, finishRoles, Reads}
 use Rattle.reader.proofs.Moves.{off, some-moves, deep-moves, stuck-moves, same-moves}
 use Rattle.reader.proofs.Judging.{none-judged, then-judged, token-judged, passes-judged}
-use Rattle.reader.proofs.Words.{Only, word-token, Worded, worded, only-word}
-use Rattle.reader.proofs.Generic.{near, within-text, name-of, reads-off, reads-stuck, addressed, reads-to, reads-from}
+use Rattle.reader.proofs.Words.{Only, Worded, worded, only-word}
+use Rattle.reader.proofs.Generic.{near, within-text, reads-off, reads-stuck, addressed, reads-to, reads-from}
 
 abbrev pub anEnding : What
 anEnding = whole (anEnd inAssignment) endingRoles
@@ -39,9 +39,6 @@ anEnding = whole (anEnd inAssignment) endingRoles
 -- [`after` integer unit] `;`
 abbrev afterStep : Step Value (anEnd inAssignment)
 afterStep = record { push = anInteger ∷ aUnit ∷ theWord SEMICOLON ∷ []; build = λ ws. after (ws .0) (ws .1 .0) }
-
-integer-of : (s : List ℕ) (t : Look) → t .kind ≡ 109 → tokenOfLook s t ≡ integer (valueOf (part s (t .start) (t .end)))
-integer-of s t k = ap (tokenOfKind (part s (t .start) (t .end))) k ∙ integer-token (part s (t .start) (t .end))
 
 pub onto-done : (v : Statements) → onto v done ≡ v
 onto-done done = refl
@@ -79,7 +76,7 @@ module _ {s : List ℕ} {room : ℕ} {p : Spot} {l : List ℕ} {t : Look} (h : p
           fine = λ _. f;
           ahead = omega (arith, x .after, x .some, near v (x .inside));
           inside = within-text v;
-          moves = λ c ss m u. some-moves s p f n (anEnd inAssignment) x afterStep (ap (next (anEnd inAssignment)) (word-token s t AFTER k)) ss m (omega arith)
+          moves = λ c ss m u. some-moves s p f n (anEnd inAssignment) x afterStep (ap (next (anEnd inAssignment)) (fixed-seen s t AFTER k)) ss m (omega arith)
               ∙ stuck-moves s (past t n) refl n anInteger v (λ small. rw (ne-eqb (i .kind) 109 g)) (aUnit ∷ theWord SEMICOLON ∷ ss) ss _ (λ us. m (immediate, us));
           judges = λ z. absurd (omega (arith, z));
         }
@@ -95,8 +92,8 @@ module _ {s : List ℕ} {room : ℕ} {p : Spot} {l : List ℕ} {t : Look} (h : p
             fine = λ _. f;
             ahead = omega (arith, x .after, x .some, x2 .after, x2 .some, near v (x2 .inside));
             inside = within-text v;
-            moves = λ c ss m o. some-moves s p f n (anEnd inAssignment) x afterStep (ap (next (anEnd inAssignment)) (word-token s t AFTER k)) ss m (omega arith)
-                ∙ some-moves s (past t n) refl n anInteger x2 record { push = []; build = λ _. valueOf (part s (i .start) (i .end)) } (ap (next anInteger) (integer-of s i k2)) (aUnit ∷ theWord SEMICOLON ∷ ss) _ (omega arith)
+            moves = λ c ss m o. some-moves s p f n (anEnd inAssignment) x afterStep (ap (next (anEnd inAssignment)) (fixed-seen s t AFTER k)) ss m (omega arith)
+                ∙ some-moves s (past t n) refl n anInteger x2 record { push = []; build = λ _. valueOf (part s (i .start) (i .end)) } (ap (next anInteger) (integer-seen s i k2)) (aUnit ∷ theWord SEMICOLON ∷ ss) _ (omega arith)
                 ∙ stuck-moves s (past i n) refl n aUnit v g (theWord SEMICOLON ∷ ss) ss _ (λ us. m (immediate, us));
             judges = λ z. absurd (omega (arith, z));
           }
@@ -119,8 +116,8 @@ module _ {s : List ℕ} {room : ℕ} {p : Spot} {l : List ℕ} {t : Look} (h : p
             fine = λ _. f;
             ahead = omega (arith, x .after, x .some, x2 .after, x2 .some, x3 .after, x3 .some, w .ahead);
             inside = w .inside;
-            moves = λ c ss m o. some-moves s p f n (anEnd inAssignment) x afterStep (ap (next (anEnd inAssignment)) (word-token s t AFTER k)) ss m (omega arith)
-                ∙ some-moves s (past t n) refl n anInteger x2 record { push = []; build = λ _. valueOf (part s (i .start) (i .end)) } (ap (next anInteger) (integer-of s i k2)) (aUnit ∷ theWord SEMICOLON ∷ ss) _ (omega arith)
+            moves = λ c ss m o. some-moves s p f n (anEnd inAssignment) x afterStep (ap (next (anEnd inAssignment)) (fixed-seen s t AFTER k)) ss m (omega arith)
+                ∙ some-moves s (past t n) refl n anInteger x2 record { push = []; build = λ _. valueOf (part s (i .start) (i .end)) } (ap (next anInteger) (integer-seen s i k2)) (aUnit ∷ theWord SEMICOLON ∷ ss) _ (omega arith)
                 ∙ some-moves s (past i n) refl n aUnit x3 record { push = []; build = λ _. unitOf (u .kind) } (ap (next aUnit) (unit-token (part s (u .start) (u .end)) (u .kind) lo (omega arith))) (theWord SEMICOLON ∷ ss) _ (omega arith)
                 ∙ w .moves (theWord SEMICOLON) record { push = []; build = λ _. tt } refl (only-word s (past u n) SEMICOLON) ss _ (omega arith);
             judges = λ z. then-judged (passes-judged x n) (then-judged (token-judged x2 n (delays (valueOf (part s (i .start) (i .end))) (unitOf (u .kind))) j) (then-judged (passes-judged x3 n) (w .judges z)));
@@ -145,7 +142,7 @@ module _ {s : List ℕ} {room : ℕ} {p : Spot} {l : List ℕ} {t : Look} (h : p
               push = theWord ARROW ∷ theWord TRANSPORT ∷ expressionAt inAssignment ∷ statements c ∷ [];
               build = λ ws. (also (assignment (nameAt s (t .start) (t .end)) (ws .1 .1 .0 .0) (ws .1 .1 .0 .1)) (ws .1 .1 .1 .0 .0), ws .1 .1 .1 .0 .1);
             }
-            (ap (next (statements c)) (name-of s t k)) ss g (omega arith)
+            (ap (next (statements c)) (name-seen s t k)) ss g (omega arith)
             ∙ w1 .moves (theWord ARROW) record { push = []; build = λ _. tt } refl (only-word s (past t n) ARROW) (theWord TRANSPORT ∷ expressionAt inAssignment ∷ statements c ∷ ss) _ (omega arith)
             ∙ w2 .moves (theWord TRANSPORT) record { push = []; build = λ _. tt } refl (only-word s a TRANSPORT) (expressionAt inAssignment ∷ statements c ∷ ss) _ (omega arith)
             ∙ d .moves inAssignment (statements c ∷ ss) _ (omega arith)
@@ -165,7 +162,7 @@ module _ {s : List ℕ} {room : ℕ} {p : Spot} {l : List ℕ} {t : Look} (h : p
         fine = λ _. f;
         ahead = x .after;
         inside = omega (arith, x .some, x .inside);
-        moves = λ c ss m u. deep-moves s p f n (statements c) x (ifStep c) (ap (next (statements c)) (word-token s t IF k)) ss (statements c ∷ ss) m (λ us. m ((also null (us .0 .0), us .0 .1), us .1))
+        moves = λ c ss m u. deep-moves s p f n (statements c) x (ifStep c) (ap (next (statements c)) (fixed-seen s t IF k)) ss (statements c ∷ ss) m (λ us. m ((also null (us .0 .0), us .0 .1), us .1))
             (λ g. omega (arith, g));
         judges = λ z. absurd (omega (arith, z));
       }
@@ -183,7 +180,7 @@ module _ {s : List ℕ} {room : ℕ} {p : Spot} {l : List ℕ} {t : Look} (h : p
         fine = λ _. f;
         ahead = omega (arith, x .after, x .some, d .ahead, w .ahead, o .ahead, o2 .ahead);
         inside = o2 .inside;
-        moves = λ c ss g u. some-moves s p f n (statements c) x (ifStep c) (ap (next (statements c)) (word-token s t IF k)) ss g (omega arith)
+        moves = λ c ss g u. some-moves s p f n (statements c) x (ifStep c) (ap (next (statements c)) (fixed-seen s t IF k)) ss g (omega arith)
             ∙ d .moves inCondition (statements inThen ∷ statements c ∷ ss) _ (omega arith)
             ∙ w .moves (anEnd inCondition) record { push = []; build = λ _. tt } refl (λ _ small i. rw (ne-eqb _ 12 i)) (statements inThen ∷ statements c ∷ ss) _ (omega arith)
             ∙ o .moves inThen (statements c ∷ ss) _ (omega arith)
@@ -206,7 +203,7 @@ module _ {s : List ℕ} {room : ℕ} {p : Spot} {l : List ℕ} {t : Look} (h : p
         ahead = omega (arith, x .after, x .some, w .ahead);
         inside = w .inside;
         moves = λ c ss g u. some-moves s p f n (statements c) x record { push = theWord SEMICOLON ∷ statements c ∷ []; build = λ ws. (also null (ws .1 .0 .0), ws .1 .0 .1) }
-            (ap (next (statements c)) (word-token s t NULL k)) ss g (omega arith)
+            (ap (next (statements c)) (fixed-seen s t NULL k)) ss g (omega arith)
             ∙ w .moves (theWord SEMICOLON) record { push = []; build = λ _. tt } refl (only-word s (past t n) SEMICOLON) (statements c ∷ ss) _ (omega arith);
         judges = λ z. then-judged (passes-judged x n) (w .judges z);
       }
@@ -297,7 +294,7 @@ module _ {s : List ℕ} {room : ℕ} {p : Spot} {l : List ℕ} {t : Look} (h : p
         ahead = omega (arith, x .after, x .some, d .ahead, c .ahead);
         inside = c .inside;
         moves = λ _ ss g u. some-moves s p f n (statements inThen) x record { push = statements inElse ∷ []; build = λ ws. (done, otherwise (ws .0 .0)) }
-            (ap (next (statements inThen)) (word-token s t ELSE k)) ss g (omega arith)
+            (ap (next (statements inThen)) (fixed-seen s t ELSE k)) ss g (omega arith)
             ∙ d .moves inElse ss _ (omega arith) ∙ c .moves ss _ (omega arith)
             ∙ ap (λ (v : Statements). verdict s r ss (λ us. g ((done, otherwise v), us))) (onto-done (d .tree));
         judges = λ z. then-judged (passes-judged x n) (then-judged (d .judges (c .fine z)) (c .judges z));

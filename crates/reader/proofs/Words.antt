@@ -20,7 +20,7 @@ use Rattle.names.specs.Roles.{passes}
 use Rattle.look.specs.declared.Look.{Look}
 use Rattle.look.specs.Inside.Looks.{part, lookOf, tokenOfKind, tokenOfLook}
 use Rattle.look.proofs.Looks.{There, View, there, gone, seen}
-use Rattle.look.proofs.Numbers.{fixedKind, takenBy, fixed-token}
+use Rattle.look.proofs.Numbers.{fixedKind, takenBy, fixed-seen}
 use Rattle.reader.specs.declared.Spot.{Spot}
 use Rattle.reader.specs.Inside.Spots.{verdict, Judged, past, unfit, wordFrom, wordOf}
 use Rattle.reader.proofs.Moves.{off, some-moves, stuck-moves}
@@ -88,10 +88,6 @@ fixed-end SEMICOLON e = omega arith
 fixed-end ARROW e = omega arith
 fixed-end BECOMES e = omega arith
 
--- the token of a word's number
-pub word-token : (s : List ℕ) (t : Look) (w : Fixed) → t .kind ≡ fixedKind w → tokenOfLook s t ≡ fixed w
-word-token s t w e = ap (tokenOfKind (part s (t .start) (t .end))) e ∙ fixed-token (part s (t .start) (t .end)) w
-
 worded-way : {w : Fixed} {s : List ℕ} {p q : Spot} → p .at ≤ length s → Way s p (fixedKind w) q → Worded w s p q
 worded-way {w} {s} {p} h (stays f) =
     record {
@@ -108,7 +104,7 @@ worded-way {w} {s} {p} h (takes {t} {n} f x e) =
       ahead = omega (arith, x .after, x .some);
       inside = x .inside;
       further = λ _. omega (arith, x .after, x .some);
-      moves = λ X st m o ss k d. some-moves s p f n X x st (ap (next X) (word-token s t w e) ∙ m) ss k d;
+      moves = λ X st m o ss k d. some-moves s p f n X x st (ap (next X) (fixed-seen s t w e) ∙ m) ss k d;
       judges = λ _. passes-judged x n;
     }
 worded-way {w} {s} {p} h (refuses {t} {n} f e g) = refused-way (seen h e)
