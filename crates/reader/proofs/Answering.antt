@@ -5,7 +5,8 @@ use native.Mathlib.Omega.{arith}
 use mathlib.Core.Path.{_≡_, refl, sym, ap, _∙_, subst}
 use mathlib.Core.Bool.{Bool, true, false}
 use mathlib.Core.List.{List, [], _∷_, map}
-use lib.ListN.{length, getD, drop}
+use lib.ListN.{length, getD, drop, length-map}
+use Rattle.laws.specs.Pick.{pick}
 use borrow.Author.Tests.{eq-eqb, ne-eqb, le-ltb}
 use Rattle.lexis.specs.declared.token.Refusal.the-variants.{At, Nowhere}
 use Rattle.lexis.specs.Token.{Placed, tokensOf, firstRefused}
@@ -13,18 +14,22 @@ use Rattle.syntax.specs.Tree.{Design}
 use Rattle.syntax.specs.Sentence.{Verdict, accepted, refused3, refused4}
 use Rattle.syntax.proofs.Rows.{aDesign}
 use Rattle.syntax.proofs.Theorem.{run, read}
-use Rattle.names.specs.Roles.{designRoles}
-use Rattle.names.specs.Judge.{State, start, Judgement, fine, refused, onward, judged, judgedDesign}
-use Rattle.names.specs.Text.{mostBytes, Answer, accepts, refuses, tokens, starts, placeOf, Scanned, Gets}
+use Rattle.names.specs.Roles.{Role, designRoles}
+use Rattle.names.specs.CircuitOf.{signalNames}
+use Rattle.names.specs.Judge.{State, start, Judgement, fine, refused, onward, lowest, faults, next, judge, judged, judgedDesign}
+use Rattle.names.specs.Text.{mostBytes, Answer, accepts, refuses, tokens, starts, placeOf, Scanned, Gets, fits}
 use Rattle.names.proofs.Answer.{answerTo, gets}
-use Rattle.ledger.specs.Inside.Standing.{Keeps}
+use Rattle.names.proofs.Verdict.{afterAll}
+use Rattle.names.proofs.Tokens.{as-many}
+use Rattle.names.proofs.Sizes.{fits-judged}
+use Rattle.ledger.specs.Inside.Standing.{Keeps, keepsFine}
 use Rattle.ledger.proofs.Keeping.{kept-fine, kept-refused}
 use Rattle.reader.specs.declared.Spot.{Spot}
 use Rattle.reader.specs.declared.design.Checked.{Checked}
 use Rattle.reader.specs.declared.design.Checked.the-variants.{Accepted, Refused}
 use Rattle.reader.specs.Answers.{Answers}
 use Rattle.reader.specs.Inside.Spots.{tokensFrom, startsFrom, placedVerdict, machine, denied, verdict, judgement}
-use Rattle.reader.specs.Inside.Designs.{designOf, beginning, Designed}
+use Rattle.reader.specs.Inside.Designs.{designOf, beginning, Designed, Surveyed, acceptedAs, refusedAs}
 
 onward-fine : (j : Judgement) → onward j (λ y. fine y) ≡ j
 onward-fine (fine y) = refl
@@ -39,6 +44,34 @@ placed-accepted : (e : ℕ) (ps : List ℕ) (v : Verdict Design) (d : Design) �
 placed-accepted e ps (accepted x) d h = h
 placed-accepted e ps (refused3 k) d h = let z : _≡_ {A = ℕ} 1 0 = ap tagOf h in absurd (omega arith)
 placed-accepted e ps (refused4 k) d h = let z : _≡_ {A = ℕ} 2 0 = ap tagOf h in absurd (omega arith)
+
+-- THE STATE THAT THE TOKENS LEAD TO
+
+lowest-state : (rows : List (ℕ × Bool)) (p : ℕ) (y z : State) → lowest rows p y ≡ fine z → z ≡ y
+lowest-state [] p y z e = cc
+lowest-state (row ∷ rows) p y z e = go (row .1) e (lowest-state rows p y z)
+  where
+    go : (b : Bool) → pick b (refused (row .0) p) (lowest rows p y) ≡ fine z → (lowest rows p y ≡ fine z → z ≡ y) → z ≡ y
+    go true e ih = let o : _≡_ {A = ℕ} 0 1 = cc in absurd (omega arith)
+    go false e ih = ih e
+
+pub judged-state : (rs : List Role) (y : State) (ps : List ℕ) (z : State) → length rs ≤ length ps → judged y rs ps ≡ fine z → z ≡ afterAll y rs
+unfolding judged
+judged-state [] y ps z h e = cc
+judged-state (r ∷ rs) y [] z h e = absurd (omega arith)
+judged-state (r ∷ rs) y (p ∷ ps) z h e = go (judge y r p) refl e (λ x. judged-state rs x ps z (omega arith))
+  where
+    go : (j : Judgement) → judge y r p ≡ j → onward j (λ x. judged x rs ps) ≡ fine z → ((x : State) → judged x rs ps ≡ fine z → z ≡ afterAll x rs) → z ≡ afterAll (next y r) rs
+    go (fine x) g e ih = ih x e ∙ ap (λ (v : State). afterAll v rs) (lowest-state (faults y r) p (next y r) x g)
+    go (refused n q) g e ih = let o : _≡_ {A = ℕ} 0 1 = cc in absurd (omega arith)
+
+places-enough : (s : List ℕ) (d : Design) → Gets s (accepts d) → length (designRoles d) ≤ length (starts s)
+places-enough s d (fits w f) =
+    let e = as-many d ∙ ap length (w .sentence) ∙ length-map (tokensOf s) (λ p. p .token) ∙ sym (length-map (tokensOf s) (λ p. p .start)) in
+    omega arith
+
+all-names : (s : List ℕ) (d : Design) → Gets s (accepts d) → afterAll start (designRoles d) .signalNames ≡ signalNames d
+all-names s d (fits w f) = fits-judged d f (w .shallow) .names
 
 module _ (s : List ℕ) (scanned : Scanned s) where
   -- the machine from the start of the text is the reader of its tokens
@@ -59,17 +92,17 @@ module _ (s : List ℕ) (scanned : Scanned s) where
     refuses-4 (refused3 k) p r h = let z : _≡_ {A = ℕ} 1 2 = ap tagOf h in absurd (omega arith)
     refuses-4 (refused4 k) p r h = let e : placeOf s k ≡ p = cc in rw (le-ltb mostBytes (length s) (scanned .short), scanned .lexical, r, e)
 
-    pub answer-deep : q .number ≡ 4 → Answers s (Refused 4 (q .at))
+    pub answer-deep : q .number ≡ 4 → Surveyed s (Refused 4 (q .at)) l′
     unfolding verdict
     answer-deep k =
         let h : placedVerdict (length s) (starts s) (read (tokens s)) ≡ refused4 (q .at) = sym from-start ∙ d .moves ∙ rw k in
-        subst (Gets s) (refuses-4 (read (tokens s)) (q .at) refl h) (gets s)
+        refusedAs (subst (Gets s) (refuses-4 (read (tokens s)) (q .at) refl h) (gets s))
 
-    pub answer-stuck : (q .number ≡ 4 → ⊥) → (q .number ≡ 0 → ⊥) → Answers s (Refused 3 (q .at))
+    pub answer-stuck : (q .number ≡ 4 → ⊥) → (q .number ≡ 0 → ⊥) → Surveyed s (Refused 3 (q .at)) l′
     unfolding verdict
     answer-stuck k g =
         let h : placedVerdict (length s) (starts s) (read (tokens s)) ≡ refused3 (q .at) = sym from-start ∙ d .moves ∙ rw (ne-eqb (q .number) 0 g, ne-eqb (q .number) 4 k) in
-        subst (Gets s) (refuses-3 (read (tokens s)) (q .at) refl h) (gets s)
+        refusedAs (subst (Gets s) (refuses-3 (read (tokens s)) (q .at) refl h) (gets s))
 
     module _ (f : q .number ≡ 0) where
       abbrev tree : Design
@@ -92,14 +125,29 @@ module _ (s : List ℕ) (scanned : Scanned s) where
         pub keeps-all : Keeps 0 s l′ (judgedDesign tree (starts s))
         keeps-all = subst (Keeps 0 s l′) judged-all (d .judges f .keeps (fine start) k)
 
-        pub answer-judged : (getD l′ 0 0 ≡ 0 → ⊥) → Answers s (Refused (getD l′ 0 0) (getD l′ 1 0))
-        answer-judged g = subst (Gets s) (refused-answer (kept-refused keeps-all g)) (gets s)
+        pub answer-judged : (getD l′ 0 0 ≡ 0 → ⊥) → Surveyed s (Refused (getD l′ 0 0) (getD l′ 1 0)) l′
+        answer-judged g = refusedAs (subst (Gets s) (refused-answer (kept-refused keeps-all g)) (gets s))
 
-        pub accepts-tree : getD l′ 0 0 ≡ 0 → answerTo s ≡ accepts tree
+        accepts-tree : getD l′ 0 0 ≡ 0 → answerTo s ≡ accepts tree
         unfolding answerTo
         accepts-tree g =
             let j = kept-fine keeps-all g in
             rw (le-ltb mostBytes (length s) (scanned .short), scanned .lexical, read-accepts, j .1)
 
-        pub answer-accepted : getD l′ 0 0 ≡ 0 → Answers s Accepted
-        answer-accepted g = (tree, subst (Gets s) (accepts-tree g) (gets s))
+        pub answer-accepted : getD l′ 0 0 ≡ 0 → Surveyed s Accepted l′
+        answer-accepted g =
+            let got = subst (Gets s) (accepts-tree g) (gets s) in
+            let j = kept-fine keeps-all g in
+            acceptedAs record {
+              tree = tree;
+              gets = got;
+              state = j .0 .state;
+              keeps = keepsFine (j .0 .stands);
+              names = ap (λ (y : State). y .signalNames) (judged-state (designRoles tree) start (starts s) (j .0 .state) (places-enough s tree got) (j .1)) ∙ all-names s tree got;
+              named = d .named;
+            }
+
+-- what the public answer says
+pub answers-of : {s : List ℕ} {r : Checked} {l : List ℕ} → Surveyed s r l → Answers s r
+answers-of (acceptedAs x) = (x .tree, x .gets)
+answers-of (refusedAs g) = g

@@ -121,6 +121,7 @@ design-read {s} {own} {a} {b} {c} {d} {e} {q} {l} {l1} {l2} e1 eo nm e2 e3 r1 o0
       word = r1 .tree .0;
       closed = r1 .tree .1;
       behind = o .tree;
+      named = ap (λ (x : Spot). theName s (x .at)) e1;
       moves = w1 .moves aDesign
           record {
             push = aName ∷ theWord IS ∷ theWord END ∷ closing entityPart ∷ behindEntity;

@@ -9,3 +9,4 @@ pub mod Declarations
 pub mod Processes
 pub mod Designs
 pub mod Answering
+pub mod Demand2

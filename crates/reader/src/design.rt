@@ -19,11 +19,12 @@ ghost use lib.ListN.{length};
 ghost use Rattle.syntax.proofs.Rows.{Part, aName, partWord, closing as closingPart};
 ghost use Rattle.look.specs.Inside.Looks.{nameAt};
 ghost use Rattle.look.proofs.Numbers.{fixedKind};
-ghost use Rattle.ledger.specs.Inside.Standing.{Sound, Span, nameOption};
+ghost use Rattle.ledger.specs.Inside.Standing.{Sound, Keeps, Span, nameOption};
+ghost use Rattle.names.specs.Judge.{fine, start};
 ghost use Rattle.names.specs.Text.{Scanned};
 ghost use Rattle.reader.specs.Answers.{Answers};
 ghost use Rattle.reader.specs.Inside.Reading.{Ready, Reads, whole, belongsRoles, closingPartRoles};
-ghost use Rattle.reader.specs.Inside.Designs.{Finished, Behind, Designed};
+ghost use Rattle.reader.specs.Inside.Designs.{Finished, Behind, Designed, Surveyed};
 
 // The name after `of`; the entity's own goes from one place to another.
 fn of_name(text: &[u8], ledger: &mut [u64; 328], p: Spot, from: usize, to: usize) -> Spot
@@ -144,14 +145,12 @@ pub enum Checked {
     Refused { number: u64, place: usize },
 }
 
-// A text that neither 1 nor 2 refuses.
-fn judged(text: &[u8]) -> Checked
-    requires { ⌜ Scanned (now text) ⌝ }
-    ensures { λ r. ⌜ Answers (now (text .entry)) r ⌝ }
+// A text that neither 1 nor 2 refuses, over a fresh ledger.
+fn judged(text: &[u8], ledger: &mut [u64; 328], table: &mut [u64]) -> Checked
+    requires { ⌜ Scanned (now text) × Keeps 0 (now text) (now ledger) (fine start) ⌝ }
+    ensures { λ r. ⌜ Surveyed (now (text .entry)) r (now (ledger .exit)) ⌝ }
 {
-    let mut ledger = fresh();
-    let mut scratch = [0u64; 1];
-    let q = design(text, &mut ledger, &mut scratch);
+    let q = design(text, ledger, table);
     if q.number == 4 {
         return Checked::Refused {
             number: 4,
@@ -173,9 +172,10 @@ fn judged(text: &[u8]) -> Checked
     Checked::Accepted
 }
 
-// Refusals 1 to 10, of any bytes.
-pub fn check(text: &[u8]) -> Checked
-    ensures { λ r. ⌜ Answers (now (text .entry)) r ⌝ }
+// Refusals 1 to 10 of any bytes, over a fresh ledger, which has the names of the signals where none applies.
+pub fn survey(text: &[u8], ledger: &mut [u64; 328], table: &mut [u64]) -> Checked
+    requires { ⌜ Keeps 0 (now text) (now ledger) (fine start) ⌝ }
+    ensures { λ r. ⌜ Surveyed (now (text .entry)) r (now (ledger .exit)) ⌝ }
 {
     if 60000 < text.len() {
         return Checked::Refused {
@@ -185,6 +185,15 @@ pub fn check(text: &[u8]) -> Checked
     }
     match first_refused(text) {
         Refusal::At(place) => Checked::Refused { number: 2, place },
-        Refusal::Nowhere => judged(text),
+        Refusal::Nowhere => judged(text, ledger, table),
     }
+}
+
+// Refusals 1 to 10, of any bytes.
+pub fn check(text: &[u8]) -> Checked
+    ensures { λ r. ⌜ Answers (now (text .entry)) r ⌝ }
+{
+    let mut ledger = fresh();
+    let mut scratch = [0u64; 1];
+    survey(text, &mut ledger, &mut scratch)
 }

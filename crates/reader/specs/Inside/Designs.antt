@@ -11,8 +11,15 @@ use Rattle.syntax.specs.Tree.{Declaration, Process, Design, design}
 use Rattle.syntax.proofs.Machine.{Values}
 use Rattle.syntax.proofs.Rows.{Symbol, Value, aDesign, aName, theWord, signals, processes, closing, architecturePart}
 use Rattle.names.specs.Roles.{Role, belongs, passes, wordRoles, closingRoles, declarationsRoles, processesRoles}
+use Rattle.names.specs.Judge.{State, fine}
+use Rattle.names.specs.CircuitOf.{entityName, signalNames}
+use Rattle.names.specs.Text.{accepts, refuses, Gets}
+use Rattle.ledger.specs.Inside.Standing.{Keeps}
+use Rattle.reader.specs.declared.design.Checked.{Checked}
+use Rattle.reader.specs.declared.design.Checked.the-variants.{Accepted, Refused}
 use Rattle.reader.specs.declared.Spot.{Spot}
-use Rattle.reader.specs.Inside.Spots.{tokensFrom, verdict, Judged}
+use Rattle.reader.specs.Inside.Spots.{tokensFrom, verdict, Judged, wordOf}
+use Rattle.reader.specs.Inside.Reading.{theName}
 
 -- the end of the text
 pub record Finished (s : List ℕ) (p q : Spot) : Type 0 where
@@ -59,11 +66,29 @@ wholeRoles e w c a r = passes ∷ passes ∷ passes ∷ passes ∷ wordRoles w (
 abbrev pub designOf : (e : Name) (w : Bool) (c : Option Name) → Architecture → Design
 designOf e w c a = design e w c (a .name) (a .of) (a .declared) (a .processes) (a .word) (a .closed)
 
+-- the name behind the first word
+abbrev pub ownName : List ℕ → Name
+ownName s = theName s (wordOf s beginning 0 .at)
+
 pub record Designed (s : List ℕ) (q : Spot) (l l′ : List ℕ) : Type 0 where
   pub entity : Name
   pub word : Bool
   pub closed : Option Name
   pub behind : Architecture
+  pub named : entity ≡ ownName s
   pub moves : verdict s beginning (aDesign ∷ []) (λ vs. vs .0) ≡ verdict s q [] (λ _. designOf entity word closed behind)
   pub judges : q .number ≡ 0 → Judged 0 0 s beginning q l l′ (wholeRoles entity word closed behind)
   pub ends : q .number ≡ 0 → tokensFrom s (q .at) ≡ []
+
+-- what a text gets, and where it is accepted the state that its tokens lead to, which the ledger keeps
+pub record Survey (s : List ℕ) (l : List ℕ) : Type 0 where
+  pub tree : Design
+  pub gets : Gets s (accepts tree)
+  pub state : State
+  pub keeps : Keeps 0 s l (fine state)
+  pub names : state .signalNames ≡ signalNames tree
+  pub named : entityName tree ≡ ownName s
+
+pub data Surveyed (s : List ℕ) : Checked → List ℕ → Type 0 where
+  acceptedAs : {l : List ℕ} → Survey s l → Surveyed s Accepted l
+  refusedAs : {number place : ℕ} {l : List ℕ} → Gets s (refuses number place) → Surveyed s (Refused number place) l

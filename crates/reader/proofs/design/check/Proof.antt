@@ -1,42 +1,24 @@
--- `reader::design::check` meets its contract: each return by its law.
+-- `reader::design::check` meets its contract: a survey over a short table.
 -- Assumes nothing.
 use Prim.Native.Nat.{ℕ, _+_, _-_, _*_, _<_, _≤_}
 use mathlib.Core.Path.{_≡_, refl, sym, ap, _∙_}
 use native.Mathlib.Omega.{arith}
 use borrow.Author.Needs.{needs}
-use Rattle.names.specs.Text.{tooLong, notLexical}
+use Rattle.reader.proofs.Answering.{answer-deep, answer-stuck, answer-judged, answer-accepted, answers-of}
 use Rattle.reader.proofs.design.check.Statement.{statement}
 use Rattle.reader.proofs.design.check.Tie as tie
 
+fresh-requires : tie.Need-fresh-requires
+fresh-requires c κs = search needs
+
+slice-aggregate-survey : tie.Need-slice-aggregate-survey
+slice-aggregate-survey c = search needs
+
+survey-requires : tie.Need-survey-requires
+survey-requires c κs = c .before .before .fresh .ensures (c .before .before .before .before .args .text .now)
+
 returns : tie.Need-returns
-returns c = tooLong (c .if1 .taken)
-
-first-refused-requires : tie.Need-first-refused-requires
-first-refused-requires c κs = search needs
-
-enum-known-place : tie.Need-enum-known-place
-enum-known-place c = search needs
-
-enum-told : tie.Need-enum-told
-enum-told c = search needs
-
-judged-requires : tie.Need-judged-requires
-judged-requires c κs = record { short = c .before .before .before .if1 .left; lexical = sym (c .before .before .first-refused .ensures) ∙ c .enum-told .given .1 }
-
-returns-2 : tie.Need-returns-2
-returns-2 c = notLexical (c .before .before .before .before .if1 .left) (sym (c .before .before .before .first-refused .ensures) ∙ c .before .place .given .1)
-
-returns-3 : tie.Need-returns-3
-returns-3 c = c .judged .ensures
+returns c = answers-of (c .before .survey .ensures)
 
 pub check-spec : {M : Type 1} → statement M
-check-spec =
-    tie.close
-    (tie.spec
-    returns
-    first-refused-requires
-    enum-known-place
-    enum-told
-    judged-requires
-    returns-2
-    returns-3)
+check-spec = tie.close (tie.spec fresh-requires slice-aggregate-survey survey-requires returns)
