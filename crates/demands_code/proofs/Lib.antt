@@ -1,0 +1,2 @@
+-- Demand 3 about the code.
+pub mod Demand3

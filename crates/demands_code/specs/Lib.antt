@@ -1,0 +1,2 @@
+-- Calls one after the other, as their promises tell of them.
+pub mod Played
