@@ -21,7 +21,7 @@ pub struct Spot {
 }
 
 // A word or mark. A spot that is refused stays.
-fn word(text: &[u8], p: Spot, kind: usize) -> Spot
+pub fn word(text: &[u8], p: Spot, kind: usize) -> Spot
     requires { ⌜ p .at ≤ length (now text) ⌝ }
     ensures { λ r. ⌜ r ≡ wordOf (now (text .entry)) p kind ⌝ }
 {

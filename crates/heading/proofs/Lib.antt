@@ -1,0 +1,3 @@
+-- Laws of the header.
+pub mod Rows
+pub mod OneOutcome

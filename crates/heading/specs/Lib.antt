@@ -1,0 +1,3 @@
+-- What `header` promises.
+pub mod Headed
+pub mod Inside
