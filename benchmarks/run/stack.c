@@ -25,7 +25,6 @@ static void advance(void) {
 
 static void measure(const char *name, void (*call)(void)) {
   uint8_t *stack = malloc(STACK);
-  size_t left = 0;
   memset(stack, PAINT, STACK);
   getcontext(&there);
   there.uc_stack.ss_sp = stack;
@@ -33,6 +32,7 @@ static void measure(const char *name, void (*call)(void)) {
   there.uc_link = &here;
   makecontext(&there, call, 0);
   swapcontext(&here, &there);
+  size_t left = 0;
   while (left < STACK && stack[left] == PAINT) left++;
   printf("%-8s %6zu bytes of stack, answer %llu\n", name, (size_t)STACK - left, (unsigned long long)answer);
   free(stack);
