@@ -25,13 +25,13 @@ use Rattle.look.specs.Inside.Looks.{part, nameAt, lookOf, tokenOfKind, tokenOfL
 use Rattle.look.proofs.Looks.{There, View, there, gone, seen, seen-there}
 use Rattle.look.proofs.Numbers.{fixedKind, chainKind, chain-kind, misfit, once-token, chain-token, literal-token, name-seen, fixed-seen}
 use Rattle.ledger.specs.Inside.Standing.{Judges}
-use Rattle.reader.specs.declared.Spot.{Spot}
-use Rattle.reader.specs.Inside.Spots.{tokensFrom, machine, verdict, Judged, past, unfit, deep, wordOf}
-use Rattle.reader.specs.Inside.Reading.{What, whole, anExpression, aTail, aMore, Reads}
-use Rattle.reader.proofs.Moves.{off, some-moves, deep-moves, same-moves}
-use Rattle.reader.proofs.Judging.{none-judged, then-judged, token-judged, passes-judged}
-use Rattle.reader.proofs.Words.{worded}
-use Rattle.reader.proofs.Generic.{reads-off, reads-stuck, addressed, reads-to, reads-from}
+use Rattle.reading.specs.declared.Spot.{Spot}
+use Rattle.reading.specs.Inside.Spots.{tokensFrom, machine, verdict, Judged, past, unfit, deep, wordOf}
+use Rattle.reading.specs.Inside.Reading.{What, whole, anExpression, aTail, aMore, Reads}
+use Rattle.reading.proofs.Moves.{off, some-moves, deep-moves, same-moves}
+use Rattle.reading.proofs.Judging.{none-judged, then-judged, token-judged, passes-judged}
+use Rattle.reading.proofs.Words.{worded}
+use Rattle.reading.proofs.Generic.{reads-off, reads-stuck, addressed, reads-to, reads-from}
 
 abbrev pub primary : What
 primary = whole aPrimary primaryRoles

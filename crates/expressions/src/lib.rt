@@ -14,7 +14,7 @@ ghost use Rattle.syntax.proofs.Rows.{aPrimary, aFactor};
 ghost use Rattle.names.specs.Roles.{primaryRoles, factorRoles};
 ghost use Rattle.ledger.specs.Inside.Standing.{Sound};
 ghost use Rattle.look.specs.Inside.Looks.{chainOf};
-ghost use Rattle.reader.specs.Inside.Reading.{Ready, Reads, whole, anExpression, aTail, aMore};
+ghost use Rattle.reading.specs.Inside.Reading.{Ready, Reads, whole, anExpression, aTail, aMore};
 
 // A name, a literal, or an expression in brackets.
 pub fn primary(

@@ -3,42 +3,41 @@
 use mathlib.Core.List.{List}
 use Rattle.look.specs.Inside.Looks.{chainOf}
 use Rattle.look.proofs.Looks.{seen-there}
-use Rattle.reader.specs.declared.Spot.{Spot}
-use Rattle.reader.specs.Inside.Reading.{Ready, Reads, aMore}
-use Rattle.reader.proofs.Generic.{reads-off, span, held, ready-token, ready-pass, ready-reads, ready-at}
-use Rattle.reader.proofs.Expressions.{primary-name, primary-literal, primary-none, primary-deep, primary-bracket, factor-plain, factor-not, expression-then, tail-low, tail-high, tail-once, tail-chain, chain-none, chain-more}
+use Rattle.reading.specs.declared.Spot.{Spot}
+use Rattle.reading.specs.Inside.Reading.{Ready, Reads, aMore}
+use Rattle.reading.proofs.Generic.{reads-off, span, held, ready-token, ready-pass, ready-reads, ready-at}
+use Rattle.expressions.proofs.Expressions.{primary-name, primary-literal, primary-none, primary-deep, primary-bracket, factor-plain, factor-not, expression-then, tail-low, tail-high, tail-once, tail-chain, chain-none, chain-more}
 use Prim.Native.Nat.{ℕ, _+_, _-_, _*_, _<_, _≤_}
 use mathlib.Core.Path.{_≡_, refl, sym, ap, _∙_}
 use mathlib.Core.Logic.{⊎-elim}
 use native.Mathlib.Omega.{arith}
 use borrow.Author.Needs.{needs}
 use lib.ListN.{length, getD}
-use Rattle.reader.specs.Inside
 use borrow.Fn.Kinds.{In}
 use borrow.Fn.PlainCycle.{Measures, is, falls, and}
-use Rattle.reader.proofs.expression.chain.Reads as chain
-use Rattle.reader.proofs.expression.chain.Kinds as chain-kinds
-use Rattle.reader.proofs.expression.+chain+expression+factor+primary+tail.Lts-chain as chain-lts
-use Rattle.reader.proofs.expression.expression.Reads as expression
-use Rattle.reader.proofs.expression.expression.Kinds as expression-kinds
-use Rattle.reader.proofs.expression.+chain+expression+factor+primary+tail.Lts-expression as expression-lts
-use Rattle.reader.proofs.expression.factor.Reads as factor
-use Rattle.reader.proofs.expression.factor.Kinds as factor-kinds
-use Rattle.reader.proofs.expression.+chain+expression+factor+primary+tail.Lts-factor as factor-lts
-use Rattle.reader.proofs.expression.primary.Reads as primary
-use Rattle.reader.proofs.expression.primary.Kinds as primary-kinds
-use Rattle.reader.proofs.expression.+chain+expression+factor+primary+tail.Lts-primary as primary-lts
-use Rattle.reader.proofs.expression.tail.Reads as tail
-use Rattle.reader.proofs.expression.tail.Kinds as tail-kinds
-use Rattle.reader.proofs.expression.+chain+expression+factor+primary+tail.Lts-tail as tail-lts
+use Rattle.expressions.proofs.chain.Reads as chain
+use Rattle.expressions.proofs.chain.Kinds as chain-kinds
+use Rattle.expressions.proofs.+chain+expression+factor+primary+tail.Lts-chain as chain-lts
+use Rattle.expressions.proofs.expression.Reads as expression
+use Rattle.expressions.proofs.expression.Kinds as expression-kinds
+use Rattle.expressions.proofs.+chain+expression+factor+primary+tail.Lts-expression as expression-lts
+use Rattle.expressions.proofs.factor.Reads as factor
+use Rattle.expressions.proofs.factor.Kinds as factor-kinds
+use Rattle.expressions.proofs.+chain+expression+factor+primary+tail.Lts-factor as factor-lts
+use Rattle.expressions.proofs.primary.Reads as primary
+use Rattle.expressions.proofs.primary.Kinds as primary-kinds
+use Rattle.expressions.proofs.+chain+expression+factor+primary+tail.Lts-primary as primary-lts
+use Rattle.expressions.proofs.tail.Reads as tail
+use Rattle.expressions.proofs.tail.Kinds as tail-kinds
+use Rattle.expressions.proofs.+chain+expression+factor+primary+tail.Lts-tail as tail-lts
 use Rattle.ledger.proofs.count.Reads as count-reads
 use Rattle.ledger.proofs.read_signal.Reads as read-signal-reads
 use Rattle.look.proofs.peek.Reads as peek-reads
-use Rattle.reader.proofs.emission.binary.Reads as binary-reads
-use Rattle.reader.proofs.emission.emit.Reads as emit-reads
-use Rattle.reader.proofs.word.Reads as word-reads
-use Rattle.reader.proofs.expression.+chain+expression+factor+primary+tail.{statement}
-use Rattle.reader.proofs.expression.+chain+expression+factor+primary+tail.Tie.{close}
+use Rattle.emission.proofs.binary.Reads as binary-reads
+use Rattle.emission.proofs.emit.Reads as emit-reads
+use Rattle.reading.proofs.word.Reads as word-reads
+use Rattle.expressions.proofs.+chain+expression+factor+primary+tail.{statement}
+use Rattle.expressions.proofs.+chain+expression+factor+primary+tail.Tie.{close}
 
 abbrev μ-chain : Measures 3 chain-kinds.ps ℕ
 μ-chain κs a = 8 * (a .1 .1 .1 .1 .0) + 2
