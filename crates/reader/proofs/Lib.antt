@@ -1,10 +1,4 @@
 -- Laws of the readers.
-pub mod Moves
-pub mod Judging
-pub mod Words
-pub mod Generic
-pub mod Expressions
-pub mod Statements
 pub mod Declarations
 pub mod Processes
 pub mod Designs
