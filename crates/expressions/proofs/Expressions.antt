@@ -50,7 +50,10 @@ literal-not k p q = go (ranged 22 23 k)
     go (inside t h g) = absurd (omega (arith, p, q))
     go (above t h) = t
 
--- the operation of a binary word
+-- the operation of a name, and of a binary word
+named-operation : (i : ℕ) → 16 * i ≡ operationWord (Instruction.name i)
+named-operation i = omega arith
+
 once-operation : (k : ℕ) → 16 ≤ k → k < 18 → binaryKind k ≡ operationWord (Instruction.binary (onceOperator (onceOf k)))
 once-operation k lo hi = go (k - 16) (omega arith)
   where
@@ -87,7 +90,7 @@ module _ {s : List ℕ} {room : ℕ} {p : Spot} {l v : List ℕ} {t : Look} (h :
         inside = x .inside;
         moves = λ c ss m u. some-moves s p f n aPrimary x record { push = []; build = λ _. named (nameAt s (t .start) (t .end)) } (ap (next aPrimary) (name-seen s t k)) ss m (omega arith);
         judges = λ _. redrafted (token-judged x (reads (nameAt s (t .start) (t .end))) g)
-            (λ y y′ o d q. ap (λ j. put (Instruction.name j) (drafted y v (p .next))) (sym (r .numberIs y o)) ∙ ap (put (Instruction.name i)) q ∙ put-drafted (Instruction.name i) y′ (p .next) v a w);
+            (λ y y′ o d q. ap (λ j. put (Instruction.name j) (drafted y v (p .next))) (sym (r .numberIs y o)) ∙ ap (put (Instruction.name i)) q ∙ put-drafted (Instruction.name i) y′ (p .next) v a (w ∙ ap (λ j. placed v (p .next) j 0) (named-operation i)));
       }
 
   pub primary-literal : {l′ v′ : List ℕ} {n o : ℕ} → 22 ≤ t .kind → t .kind < 24 → Judges 0 0 s (counts 1) (t .start) l l′
@@ -208,9 +211,9 @@ module _ {s : List ℕ} {room : ℕ} {p : Spot} {l v : List ℕ} {t : Look} (h :
   pub tail-high : 22 ≤ t .kind → Reads aTail s room p p l l v v
   tail-high a = tail-none (within-above 16 17 (t .kind) (omega arith)) (within-above 18 21 (t .kind) a)
 
-  pub tail-once : {m : ℕ} {q : Spot} {l1 l2 v1 v2 : List ℕ} → 16 ≤ t .kind → t .kind < 18 → Judges 0 0 s (counts 1) (t .start) l l1 → Reads factor s room (past t (p .next)) q l1 l2 v v1
-      → m ≡ following (q .next) → v2 ≡ placed v1 (q .next) (binaryKind (t .kind)) 0 → Reads aTail s room p (addressed q m) l l2 v v2
-  tail-once {m} {q} {v1 = v1} lo hi g d a w =
+  pub tail-once : {m o : ℕ} {q : Spot} {l1 l2 v1 v2 : List ℕ} → 16 ≤ t .kind → t .kind < 18 → Judges 0 0 s (counts 1) (t .start) l l1 → Reads factor s room (past t (p .next)) q l1 l2 v v1
+      → m ≡ following (q .next) → o ≡ binaryKind (t .kind) → v2 ≡ placed v1 (q .next) o 0 → Reads aTail s room p (addressed q m) l l2 v v2
+  tail-once {m} {q = q} {v1 = v1} lo hi g d a i w =
       let x = seen-there h e (λ z. omega arith) in
       record {
         tree = joined (onceOf (t .kind)) (d .tree);
@@ -221,13 +224,13 @@ module _ {s : List ℕ} {room : ℕ} {p : Spot} {l v : List ℕ} {t : Look} (h :
             (ap (next (tailAt c)) (once-token (part s (t .start) (t .end)) (t .kind) lo hi)) ss k (omega arith)
             ∙ d .moves tt (anEnd c ∷ ss) _ (omega arith) ∙ to-address s q m (anEnd c ∷ ss) _;
         judges = λ z. put-judged (then-judged (token-judged x (counts 1) g) (d .judges z)) (Instruction.binary (onceOperator (onceOf (t .kind)))) a
-            (w ∙ ap (λ j. placed v1 (q .next) j 0) (once-operation (t .kind) lo hi));
+            (w ∙ ap (λ j. placed v1 (q .next) j 0) (i ∙ once-operation (t .kind) lo hi));
       }
 
-  pub tail-chain : {m : ℕ} {q r : Spot} {l1 l2 l3 v1 v2 v3 : List ℕ} → 18 ≤ t .kind → t .kind < 22 → Judges 0 0 s (counts 1) (t .start) l l1 → Reads factor s room (past t (p .next)) q l1 l2 v v1
-      → m ≡ following (q .next) → v2 ≡ placed v1 (q .next) (binaryKind (t .kind)) 0
+  pub tail-chain : {m o : ℕ} {q r : Spot} {l1 l2 l3 v1 v2 v3 : List ℕ} → 18 ≤ t .kind → t .kind < 22 → Judges 0 0 s (counts 1) (t .start) l l1 → Reads factor s room (past t (p .next)) q l1 l2 v v1
+      → m ≡ following (q .next) → o ≡ binaryKind (t .kind) → v2 ≡ placed v1 (q .next) o 0
       → Reads (aMore (chainOf (t .kind))) s room (addressed q m) r l2 l3 v2 v3 → Reads aTail s room p r l l3 v v3
-  tail-chain {m} {q} {v1 = v1} lo hi g d a w b =
+  tail-chain {m} {q = q} {v1 = v1} lo hi g d a i w b =
       let x = seen-there h e (λ z. omega arith) in
       record {
         tree = chained (chainOf (t .kind)) (d .tree) (b .tree);
@@ -238,7 +241,7 @@ module _ {s : List ℕ} {room : ℕ} {p : Spot} {l v : List ℕ} {t : Look} (h :
             (ap (next (tailAt c)) (chain-token (part s (t .start) (t .end)) (t .kind) lo hi)) ss k (omega arith)
             ∙ d .moves tt (moreAt (chainOf (t .kind)) c ∷ ss) _ (omega arith) ∙ to-address s q m (moreAt (chainOf (t .kind)) c ∷ ss) _ ∙ b .moves c ss _ (omega arith);
         judges = λ z. then-judged (put-judged (then-judged (token-judged x (counts 1) g) (d .judges (b .fine z))) (Instruction.binary (chainOperator (chainOf (t .kind)))) a
-            (w ∙ ap (λ j. placed v1 (q .next) j 0) (chain-operation (t .kind) lo hi))) (b .judges z);
+            (w ∙ ap (λ j. placed v1 (q .next) j 0) (i ∙ chain-operation (t .kind) lo hi))) (b .judges z);
       }
 
   module _ {d : ℕ} (lo : 18 ≤ d) (hi : d < 22) where
@@ -254,21 +257,21 @@ module _ {s : List ℕ} {room : ℕ} {p : Spot} {l v : List ℕ} {t : Look} (h :
           judges = λ z. none-judged;
         }
 
-    pub chain-more : {m : ℕ} {q r : Spot} {l1 l2 l3 v1 v2 v3 : List ℕ} → t .kind ≡ d → Judges 0 0 s (counts 1) (t .start) l l1 → Reads factor s room (past t (p .next)) q l1 l2 v v1
-        → m ≡ following (q .next) → v2 ≡ placed v1 (q .next) (binaryKind d) 0
+    pub chain-more : {m o : ℕ} {q r : Spot} {l1 l2 l3 v1 v2 v3 : List ℕ} → t .kind ≡ d → Judges 0 0 s (counts 1) (t .start) l l1 → Reads factor s room (past t (p .next)) q l1 l2 v v1
+        → m ≡ following (q .next) → o ≡ binaryKind d → v2 ≡ placed v1 (q .next) o 0
         → Reads (aMore (chainOf d)) s room (addressed q m) r l2 l3 v2 v3 → Reads (aMore (chainOf d)) s room p r l l3 v v3
-    chain-more {m} {q} {v1 = v1} k g o a w b =
+    chain-more {m} {q = q} {v1 = v1} k g b1 a i w b =
         let x = seen-there h e (λ z. omega arith) in
         record {
-          tree = more (o .tree) (b .tree);
+          tree = more (b1 .tree) (b .tree);
           fine = λ _. f;
-          ahead = omega (arith, x .after, x .some, o .ahead, b .ahead);
+          ahead = omega (arith, x .after, x .some, b1 .ahead, b .ahead);
           inside = b .inside;
-          moves = λ c ss i u. some-moves s p f (p .next) (moreAt (chainOf d) c) x record { push = aFactor ∷ moreAt (chainOf d) c ∷ []; build = λ ws. (more (ws .0) (ws .1 .0 .0), ws .1 .0 .1) }
-              (more-next c) ss i (omega arith)
-              ∙ o .moves tt (moreAt (chainOf d) c ∷ ss) _ (omega arith) ∙ to-address s q m (moreAt (chainOf d) c ∷ ss) _ ∙ b .moves c ss _ (omega arith);
-          judges = λ z. then-judged (put-judged (then-judged (token-judged x (counts 1) g) (o .judges (b .fine z))) (Instruction.binary (chainOperator (chainOf d))) a
-              (w ∙ ap (λ j. placed v1 (q .next) j 0) (chain-operation d lo hi))) (b .judges z);
+          moves = λ c ss j u. some-moves s p f (p .next) (moreAt (chainOf d) c) x record { push = aFactor ∷ moreAt (chainOf d) c ∷ []; build = λ ws. (more (ws .0) (ws .1 .0 .0), ws .1 .0 .1) }
+              (more-next c) ss j (omega arith)
+              ∙ b1 .moves tt (moreAt (chainOf d) c ∷ ss) _ (omega arith) ∙ to-address s q m (moreAt (chainOf d) c ∷ ss) _ ∙ b .moves c ss _ (omega arith);
+          judges = λ z. then-judged (put-judged (then-judged (token-judged x (counts 1) g) (b1 .judges (b .fine z))) (Instruction.binary (chainOperator (chainOf d))) a
+              (w ∙ ap (λ j. placed v1 (q .next) j 0) (i ∙ chain-operation d lo hi))) (b .judges z);
         }
       where
         same : (b : Chain) (c : Place) → next (moreAt b c) (chain b) ≡ some record { push = aFactor ∷ moreAt b c ∷ []; build = λ ws. (more (ws .0) (ws .1 .0 .0), ws .1 .0 .1) }
