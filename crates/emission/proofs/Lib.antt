@@ -1,0 +1,3 @@
+-- What the parts of a design write is the translation of its circuit.
+pub mod Laid
+pub mod Expressions
