@@ -19,7 +19,7 @@ use Rattle.emission.proofs.Laid.{puts, puts-names, puts-next}
 abbrev pub Writes : Formula → Draft → Draft → Type 0
 Writes a m n = (is : List Instruction) → puts (formulaCode a is) m ≡ puts is n
 
-same-names : (a : Formula) (m n : Draft) → Writes a m n → n .names ≡ m .names
+pub same-names : (a : Formula) (m n : Draft) → Writes a m n → n .names ≡ m .names
 same-names a m n w = sym (ap (λ d. d .names) (w [])) ∙ puts-names (formulaCode a []) m
 
 -- over the same names, a formula behind another and what joins them

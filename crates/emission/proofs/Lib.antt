@@ -1,3 +1,4 @@
 -- What the parts of a design write is the translation of its circuit.
 pub mod Laid
 pub mod Expressions
+pub mod Statements
