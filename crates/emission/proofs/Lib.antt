@@ -2,3 +2,4 @@
 pub mod Laid
 pub mod Expressions
 pub mod Statements
+pub mod Columns
