@@ -94,6 +94,19 @@ module _ {words behind : List ℕ} {values : List Bool} {wakes : ℕ → ℕ} {e
         delays = other-column words delaysFrom 4096 i v _ (omega arith) (f .delays);
       }
 
+  -- wakes that agree
+  pub filled-same : (others : ℕ → ℕ) → ((k : ℕ) → k < 64 → wakes k ≡ others k) → Filled words behind values others ends code
+  filled-same others h =
+      record {
+        long = f .long;
+        after = f .after;
+        initial = f .initial;
+        listeners = λ k l. f .listeners k l ∙ h k l;
+        ended = f .ended;
+        operations = f .operations;
+        delays = f .delays;
+      }
+
   -- the next process ends
   pub filled-end : (v : ℕ) → length ends < 64 → Filled (set words (endsFrom + length ends) v) behind values wakes (ends ++ (v ∷ [])) code
   filled-end v l =

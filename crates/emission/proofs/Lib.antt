@@ -3,3 +3,4 @@ pub mod Laid
 pub mod Expressions
 pub mod Statements
 pub mod Columns
+pub mod Listeners
