@@ -4,3 +4,5 @@ pub mod Expressions
 pub mod Statements
 pub mod Columns
 pub mod Listeners
+pub mod Stages
+pub mod Declarations
