@@ -1,20 +1,17 @@
 -- The columns of a table that is being written: what each write does to one of them, and that the others stay. Assumes nothing.
 use Prim.Native.Nat.{ℕ, zero, suc, _+_, _≤_, _<_}
 use native.Mathlib.Omega.{arith}
-use mathlib.Core.Path.{_≡_, refl, sym, _∙_, ap, subst}
+use mathlib.Core.Path.{_≡_, refl, sym, _∙_, ap}
 use mathlib.Core.Bool.{Bool, true, false}
 use mathlib.Core.List.{List, [], _∷_, _++_, map, map-append}
 use lib.Dec.{eqb, eqb·zero-suc, eqb·suc-zero, eqb·suc-suc}
 use lib.ListN.{length, getD, set, drop, length-set, length-map}
 use lib.Seq.{getD-set-same, getD-set-other, drop-set-lt}
-use borrow.Author.Tests.{lt-ltb, ltb-true, ltb-false, eqb-true, eqb-false, ne-eqb}
+use borrow.Author.Tests.{eqb-true, eqb-false}
 use Rattle.laws.specs.Pick.{pick}
-use Rattle.laws.proofs.Ranges.{within-inside}
-use Rattle.laws.proofs.Picks.{pick-both}
 use Rattle.table.specs.Instructions.{Instruction}
 use Rattle.table.specs.Translation.{number}
 use Rattle.layout.specs.TableWords.{initialFrom, listenersFrom, endsFrom, operationsFrom, delaysFrom, tableSize, operationWord, delayWord}
-use Rattle.emission.specs.Inside.Draft.{placed, withBit, waking, ended}
 
 -- so many words from a place on are those of f
 abbrev pub Column : List ℕ → (from size : ℕ) → (ℕ → ℕ) → Type 0
@@ -64,6 +61,19 @@ module _ {words behind : List ℕ} {values : List Bool} {wakes : ℕ → ℕ} {e
 
   keeps-after : (i v : ℕ) → i < tableSize → drop tableSize (set words i v) ≡ behind
   keeps-after i v l = drop-set-lt tableSize words i v l ∙ f .after
+
+  -- a count, before all columns
+  pub filled-count : (i v : ℕ) → i < initialFrom → Filled (set words i v) behind values wakes ends code
+  filled-count i v l =
+      record {
+        long = keeps-long i v;
+        after = keeps-after i v (omega arith);
+        initial = other-column words initialFrom 64 i v _ (omega arith) (f .initial);
+        listeners = other-column words listenersFrom 64 i v _ (omega arith) (f .listeners);
+        ended = other-column words endsFrom 64 i v _ (omega arith) (f .ended);
+        operations = other-column words operationsFrom 4096 i v _ (omega arith) (f .operations);
+        delays = other-column words delaysFrom 4096 i v _ (omega arith) (f .delays);
+      }
 
   -- the next starting value
   pub filled-value : (b : Bool) → length values < 64 → Filled (set words (initialFrom + length values) (number b)) behind (values ++ (b ∷ [])) wakes ends code

@@ -6,3 +6,4 @@ pub mod Columns
 pub mod Listeners
 pub mod Stages
 pub mod Declarations
+pub mod Theorem

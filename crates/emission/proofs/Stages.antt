@@ -2,7 +2,7 @@
 use Prim.Native.Nat.{ℕ, _+_, _≤_, _<_}
 use native.Mathlib.Omega.{arith}
 use mathlib.Core.Path.{_≡_, refl, sym, _∙_, ap, subst}
-use mathlib.Core.Bool.{Bool, true, false}
+use mathlib.Core.Bool.{Bool}
 use mathlib.Core.List.{List, [], _∷_, _++_, append-assoc, append-nil}
 use lib.ListN.{length, length-append}
 use borrow.Author.Tests.{lt-ltb}
@@ -10,17 +10,16 @@ use Rattle.laws.proofs.Ranges.{within-inside}
 use Rattle.words.specs.Token.{Name}
 use Rattle.syntax.specs.Tree.{Sensitivity, Process, unlisted, listed, process}
 use Rattle.syntax.specs.Circuit.{Activity}
-use Rattle.rules.specs.Statements.{member}
 use Rattle.rules.specs.Sized.{instructions, total}
 use Rattle.table.specs.Instructions.{Instruction}
 use Rattle.table.specs.Translation
 use Rattle.table.specs.Translation.{endsFrom, codeFrom, listenersOf}
 use Rattle.table.proofs.Faithful.{front}
 use Rattle.table.proofs.Translating.{length-code}
-use Rattle.names.specs.CircuitOf.{distinct, listNames, numbers, statementsActions, activityOf, activitiesOf}
-use Rattle.emission.specs.Inside.Draft.{Draft, put, withBit, withWords, withProcess, withListener, withEnd, eachDraft, statementsDraft, sensitivityDraft, processDraft, processesDraft}
+use Rattle.names.specs.CircuitOf.{distinct, listNames, numbers, activityOf, activitiesOf}
+use Rattle.emission.specs.Inside.Draft.{Draft, put, withWords, withProcess, withListener, withEnd, eachDraft, statementsDraft, sensitivityDraft, processDraft, processesDraft}
 use Rattle.emission.proofs.Laid.{puts, puts-names, puts-processes, next-put}
-use Rattle.emission.proofs.Statements.{Reaches, reaches-names, statements-reach}
+use Rattle.emission.proofs.Statements.{statements-reach}
 use Rattle.emission.proofs.Columns.{Filled, filled-put, filled-same, filled-end}
 use Rattle.emission.proofs.Listeners.{member-distinct, next-listener, filled-listeners, listeners-words}
 
@@ -68,7 +67,7 @@ module _ {behind : List ℕ} {values : List Bool} {names : List Name} {before : 
   process-stage : (p : Process) (m : Draft) → Stage m behind values names before ends is → length before < 64
       → m .next + instructions (activityOf names p .body) ≤ 4096
       → Stage (processDraft p m) behind values names (before ++ (activityOf names p ∷ []))
-        (ends ++ ((m .next + instructions (activityOf names p .body)) ∷ [])) (is ++ Translation.code (m .next) (activityOf names p .body) [])
+      (ends ++ ((m .next + instructions (activityOf names p .body)) ∷ [])) (is ++ Translation.code (m .next) (activityOf names p .body) [])
   unfolding withProcess withEnd Translation.code instructions
   process-stage (process l s i b c) m t few small =
       let a = activityOf names (process l s i b c) in
@@ -95,7 +94,7 @@ module _ {behind : List ℕ} {values : List Bool} {names : List Name} where
   pub processes-stage : (ps : List Process) (m : Draft) (before : List Activity) (ends : List ℕ) (is : List Instruction) → Stage m behind values names before ends is
       → length before + length (activitiesOf names ps) ≤ 64 → m .next + total (activitiesOf names ps) ≤ 4096
       → Stage (processesDraft ps m) behind values names (before ++ activitiesOf names ps)
-        (ends ++ endsFrom (m .next) (activitiesOf names ps)) (is ++ codeFrom (m .next) (activitiesOf names ps))
+      (ends ++ endsFrom (m .next) (activitiesOf names ps)) (is ++ codeFrom (m .next) (activitiesOf names ps))
   unfolding total endsFrom codeFrom
   processes-stage [] m before ends is t few small = rw (append-nil before, append-nil ends, append-nil is) t
   processes-stage (p ∷ ps) m before ends is t few small =
@@ -106,5 +105,5 @@ module _ {behind : List ℕ} {values : List Bool} {names : List Name} where
       let u = process-stage p m t (omega arith) (omega arith) in
       let e : processDraft p m .next ≡ y = omega (arith, u .reached, t .reached, length-append is js, length-code (a .body) (m .next) []) in
       let v = processes-stage ps (processDraft p m) (before ++ (a ∷ [])) (ends ++ (y ∷ [])) (is ++ js) u
-          (omega (arith, length-append before (a ∷ []))) (omega arith) in
+      (omega (arith, length-append before (a ∷ []))) (omega arith) in
       rw (front (a .body) (m .next) [] (codeFrom y rest), ← append-assoc is js (codeFrom y rest), ← append-assoc before (a ∷ []) rest, ← append-assoc ends (y ∷ []) (endsFrom y rest)) (rw e at v)

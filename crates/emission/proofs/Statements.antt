@@ -27,7 +27,7 @@ pub record Reaches (actions : Actions) (m : Draft) (rest : Actions) (n : Draft) 
 onward : {a b c : Actions} {m n l : Draft} → Reaches a m b n → Reaches b n c l → Reaches a m c l
 onward r s = record { address = s .address ∙ r .address; written = r .written ∙ s .written }
 
-pub reaches-names : (a b : Actions) (m n : Draft) → Reaches a m b n → n .names ≡ m .names
+reaches-names : (a b : Actions) (m n : Draft) → Reaches a m b n → n .names ≡ m .names
 reaches-names a b m n r =
     sym (puts-names (code (n .next) b []) n) ∙ ap (λ d. d .names) (sym (r .written)) ∙ puts-names (code (m .next) a []) m
 
@@ -50,7 +50,7 @@ targets is js a b c p q h k l =
     let over = operationWord (skip (c .next)) in
     let g = next-put (test 0) a (omega arith) in
     let b′ : anew (a .next) to b ≡ puts is (put (test (b .next + 1)) a) =
-        ap (anew (a .next) to) p ∙ anew-puts is (a .next) to (put (test 0) a) (omega arith) ∙ ap (puts is) (anew-other (test 0) (test (b .next + 1)) a (omega arith) refl) in
+    ap (anew (a .next) to) p ∙ anew-puts is (a .next) to (put (test 0) a) (omega arith) ∙ ap (puts is) (anew-other (test 0) (test (b .next + 1)) a (omega arith) refl) in
     aimed-anew a b c (omega arith) k l
     ∙ ap (λ d. anew (b .next) over (anew (a .next) to d)) q
     ∙ ap (anew (b .next) over) (anew-puts (skip 0 ∷ js) (a .next) to b h)
@@ -77,7 +77,7 @@ branch-reaches f first second rest m a b c w n r s l =
           ∙ puts-code first (put (test 0) a .next) _ (put (test (b .next + 1)) a)
           ∙ puts-code second (put (skip 0) b .next) (code (c .next) rest []) _
           ∙ ap (puts (code (c .next) rest [])) (sym (targets (code (put (test 0) a .next) first []) (code (put (skip 0) b .next) second []) a b c
-            (sym (r .written)) (sym (s .written)) (omega arith) (omega arith) (omega arith)));
+          (sym (r .written)) (sym (s .written)) (omega arith) (omega arith) (omega arith)));
     }
 
 -- STATEMENTS, over the names ns
