@@ -1,4 +1,7 @@
--- What the parts of a design write is the translation of its circuit.
+-- Laws of the words of a table that loops write, and of the bits of processes.
+pub mod Bits
+pub mod Filling
+-- What the parts of a design draft is the translation of its circuit.
 pub mod Laid
 pub mod Expressions
 pub mod Statements

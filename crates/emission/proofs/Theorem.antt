@@ -28,10 +28,10 @@ use Rattle.emission.proofs.Declarations.{declarations-stage}
 
 -- NOTHING READ YET
 
-length-zeros : (n : ℕ) → length (zeros n) ≡ n
+as-many-zeros : (n : ℕ) → length (zeros n) ≡ n
 unfolding zeros
-length-zeros zero = refl
-length-zeros (suc n) = ap suc (length-zeros n)
+as-many-zeros zero = refl
+as-many-zeros (suc n) = ap suc (as-many-zeros n)
 
 zeros-at : (n : ℕ) (rest : List ℕ) (i : ℕ) → i < n → getD (zeros n ++ rest) i 0 ≡ 0
 unfolding zeros
@@ -43,7 +43,7 @@ nothing-stage : (words : List ℕ) → Stage (nothing (cleared words)) (drop tab
 unfolding listenersOf word
 nothing-stage words =
     let rest = drop tableSize words in
-    let n = length-zeros tableSize in
+    let n = as-many-zeros tableSize in
     record {
       filled = record {
         long = omega (arith, length-append (zeros tableSize) rest);

@@ -1,20 +1,20 @@
 // Expressions. Expression, factor and primary call each other in a cycle; the nesting room falls with each bracket.
-use crate::Spot;
-use crate::emission::binary;
-use crate::emission::emit;
-use crate::word;
+use emission::binary;
+use emission::emit;
 use ledger::count;
 use ledger::read_signal;
 use look::Look;
 use look::peek;
+use reading::Spot;
+use reading::word;
 ghost use mathlib.Core.Path.{_≡_};
 ghost use Prim.Native.Nat.{_≤_, _<_};
 ghost use lib.ListN.{length};
 ghost use Rattle.syntax.proofs.Rows.{aPrimary, aFactor};
 ghost use Rattle.names.specs.Roles.{primaryRoles, factorRoles};
-ghost use Rattle.ledger.specs.Inside.Standing.{Sound};
+ghost use Rattle.emission.specs.Inside.Draft.{primaryDraft, factorDraft};
 ghost use Rattle.look.specs.Inside.Looks.{chainOf};
-ghost use Rattle.reader.specs.Inside.Reading.{Ready, Reads, whole, anExpression, aTail, aMore};
+ghost use Rattle.reading.specs.Inside.Reading.{Ready, Reads, whole, anExpression, aTail, aMore};
 
 // A name, a literal, or an expression in brackets.
 pub fn primary(
@@ -25,7 +25,7 @@ pub fn primary(
     room: usize,
 ) -> Spot
     requires { ⌜ Ready 0 (now text) p (now ledger) ⌝ }
-    ensures { λ r. ⌜ Reads (whole aPrimary primaryRoles) (now (text .entry)) room p r (now (ledger .entry)) (now (ledger .exit)) ⌝ }
+    ensures { λ r. ⌜ Reads (whole aPrimary primaryRoles primaryDraft) (now (text .entry)) room p r (now (ledger .entry)) (now (ledger .exit)) (now (table .entry)) (now (table .exit)) ⌝ }
 {
     if p.number != 0 {
         return p;
@@ -83,7 +83,7 @@ pub fn primary(
 
 pub fn factor(text: &[u8], ledger: &mut [u64; 328], table: &mut [u64], p: Spot, room: usize) -> Spot
     requires { ⌜ Ready 0 (now text) p (now ledger) ⌝ }
-    ensures { λ r. ⌜ Reads (whole aFactor factorRoles) (now (text .entry)) room p r (now (ledger .entry)) (now (ledger .exit)) ⌝ }
+    ensures { λ r. ⌜ Reads (whole aFactor factorRoles factorDraft) (now (text .entry)) room p r (now (ledger .entry)) (now (ledger .exit)) (now (table .entry)) (now (table .exit)) ⌝ }
 {
     if p.number != 0 {
         return p;
@@ -115,7 +115,7 @@ pub fn expression(
     room: usize,
 ) -> Spot
     requires { ⌜ Ready 0 (now text) p (now ledger) ⌝ }
-    ensures { λ r. ⌜ Reads anExpression (now (text .entry)) room p r (now (ledger .entry)) (now (ledger .exit)) ⌝ }
+    ensures { λ r. ⌜ Reads anExpression (now (text .entry)) room p r (now (ledger .entry)) (now (ledger .exit)) (now (table .entry)) (now (table .exit)) ⌝ }
 {
     let q = factor(text, ledger, table, p, room);
     tail(text, ledger, table, q, room)
@@ -124,7 +124,7 @@ pub fn expression(
 // What follows the first factor.
 pub fn tail(text: &[u8], ledger: &mut [u64; 328], table: &mut [u64], p: Spot, room: usize) -> Spot
     requires { ⌜ Ready 0 (now text) p (now ledger) ⌝ }
-    ensures { λ r. ⌜ Reads aTail (now (text .entry)) room p r (now (ledger .entry)) (now (ledger .exit)) ⌝ }
+    ensures { λ r. ⌜ Reads aTail (now (text .entry)) room p r (now (ledger .entry)) (now (ledger .exit)) (now (table .entry)) (now (table .exit)) ⌝ }
 {
     if p.number != 0 {
         return p;
@@ -165,7 +165,7 @@ pub fn chain(
     kind: usize,
 ) -> Spot
     requires { ⌜ Ready 0 (now text) first (now ledger) × (18 ≤ kind) × (kind < 22) ⌝ }
-    ensures { λ r. ⌜ Reads (aMore (chainOf kind)) (now (text .entry)) room first r (now (ledger .entry)) (now (ledger .exit)) ⌝ }
+    ensures { λ r. ⌜ Reads (aMore (chainOf kind)) (now (text .entry)) room first r (now (ledger .entry)) (now (ledger .exit)) (now (table .entry)) (now (table .exit)) ⌝ }
 {
     let mut p = first;
     while p.number == 0 {

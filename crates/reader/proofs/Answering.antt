@@ -24,11 +24,11 @@ use Rattle.names.proofs.Tokens.{as-many}
 use Rattle.names.proofs.Sizes.{fits-judged}
 use Rattle.ledger.specs.Inside.Standing.{Keeps, keepsFine}
 use Rattle.ledger.proofs.Keeping.{kept-fine, kept-refused}
-use Rattle.reader.specs.declared.Spot.{Spot}
+use Rattle.reading.specs.declared.Spot.{Spot}
 use Rattle.reader.specs.declared.design.Checked.{Checked}
 use Rattle.reader.specs.declared.design.Checked.the-variants.{Accepted, Refused}
 use Rattle.reader.specs.Answers.{Answers}
-use Rattle.reader.specs.Inside.Spots.{tokensFrom, startsFrom, placedVerdict, machine, denied, verdict, judgement}
+use Rattle.reading.specs.Inside.Spots.{tokensFrom, startsFrom, placedVerdict, machine, denied, verdict, judgement}
 use Rattle.reader.specs.Inside.Designs.{designOf, beginning, Designed, Surveyed, acceptedAs, refusedAs}
 
 onward-fine : (j : Judgement) → onward j (λ y. fine y) ≡ j

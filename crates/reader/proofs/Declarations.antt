@@ -21,13 +21,13 @@ use Rattle.look.specs.Inside.Looks.{part, nameAt, lookOf, tokenOfKind, tokenOfL
 use Rattle.look.proofs.Looks.{There, View, seen, seen-there}
 use Rattle.look.proofs.Numbers.{takenBy, misfit, literal-token, name-seen, fixed-seen}
 use Rattle.ledger.specs.Inside.Standing.{Judges}
-use Rattle.reader.specs.declared.Spot.{Spot}
-use Rattle.reader.specs.Inside.Spots.{verdict, past, unfit, wordOf}
-use Rattle.reader.specs.Inside.Reading.{What, whole, given, declaresRoles, initialRoles, moreSignalsRoles, signalsRoles, theName, Named, Reads}
-use Rattle.reader.proofs.Moves.{some-moves, stuck-moves, same-moves}
-use Rattle.reader.proofs.Judging.{then-judged, token-judged, passes-judged}
-use Rattle.reader.proofs.Words.{worded, only-word}
-use Rattle.reader.proofs.Generic.{near, within-text, reads-off, reads-stuck}
+use Rattle.reading.specs.declared.Spot.{Spot}
+use Rattle.reading.specs.Inside.Spots.{verdict, past, unfit, wordOf}
+use Rattle.reading.specs.Inside.Reading.{What, whole, given, declaresRoles, initialRoles, moreSignalsRoles, signalsRoles, theName, Named, Reads}
+use Rattle.reading.proofs.Moves.{some-moves, stuck-moves, same-moves}
+use Rattle.reading.proofs.Judging.{then-judged, token-judged, passes-judged}
+use Rattle.reading.proofs.Words.{worded, only-word}
+use Rattle.reading.proofs.Generic.{near, within-text, reads-off, reads-stuck}
 
 module _ {s : List ℕ} {p : Spot} {t : Look} (h : p .at ≤ length s) (f : p .number ≡ 0) (e : t ≡ lookOf s (p .at)) where
   -- NAMES

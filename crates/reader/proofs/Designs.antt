@@ -20,13 +20,13 @@ use Rattle.look.specs.declared.Look.{Look}
 use Rattle.look.specs.Inside.Looks.{nameAt, lookOf}
 use Rattle.look.proofs.Looks.{There, Gone, View, there, gone, seen, seen-there, seen-gone}
 use Rattle.ledger.specs.Inside.Standing.{Sound, Span, nameOption}
-use Rattle.reader.specs.declared.Spot.{Spot}
-use Rattle.reader.specs.Inside.Spots.{tokensFrom, machine, verdict, Judged, past, unfit, wordOf}
-use Rattle.reader.specs.Inside.Reading.{What, whole, given, theName, Named, belongsRoles, signalsRoles, processesEndRoles, closingPartRoles, Ready, Reads}
+use Rattle.reading.specs.declared.Spot.{Spot}
+use Rattle.reading.specs.Inside.Spots.{tokensFrom, machine, verdict, Judged, past, unfit, wordOf}
+use Rattle.reading.specs.Inside.Reading.{What, whole, given, theName, Named, belongsRoles, signalsRoles, processesEndRoles, closingPartRoles, Ready, Reads}
 use Rattle.reader.specs.Inside.Designs.{Finished, behindEntity, Architecture, valuesOf, architectureRoles, Behind, beginning, wholeRoles, designOf, Designed}
-use Rattle.reader.proofs.Moves.{on, off}
-use Rattle.reader.proofs.Judging.{none-judged, then-judged}
-use Rattle.reader.proofs.Words.{worded, only-word}
+use Rattle.reading.proofs.Moves.{on, off}
+use Rattle.reading.proofs.Judging.{none-judged, then-judged}
+use Rattle.reading.proofs.Words.{worded, only-word}
 
 -- every look stands for a part of the text
 pub look-span : {s : List ℕ} {at : ℕ} {t : Look} → at ≤ length s → t ≡ lookOf s at → Span s (t .start) (t .end)

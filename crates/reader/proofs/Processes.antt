@@ -23,14 +23,14 @@ use Rattle.look.proofs.Looks.{There, View, there, gone, seen, seen-there}
 use Rattle.look.proofs.Numbers.{fixedKind, takenBy, misfit, name-seen, fixed-seen}
 use Rattle.ledger.specs.Inside.Standing.{Judges, nameOption}
 use Rattle.ledger.proofs.Keeping.{unlabelled}
-use Rattle.reader.specs.declared.Spot.{Spot}
-use Rattle.reader.specs.Inside.Spots.{verdict, Judged, past, unfit, wordOf, Stops, Forward}
-use Rattle.reader.specs.Inside.Reading.{What, whole, aList, aProcess, someStatements, listensRoles, moreListedRoles, beginningRoles, closingNameRoles, bodyRoles, processesEndRoles, closingPartRoles, Opens, Ready, Reads}
-use Rattle.reader.proofs.Moves.{off, some-moves, stuck-moves, same-moves}
-use Rattle.reader.proofs.Judging.{none-judged, then-judged, token-judged, passes-judged}
-use Rattle.reader.proofs.Words.{Only, Worded, worded, only-word}
-use Rattle.reader.proofs.Generic.{near, within-text, reads-off, reads-stuck}
-use Rattle.reader.proofs.Statements.{onto-done, only-process}
+use Rattle.reading.specs.declared.Spot.{Spot}
+use Rattle.reading.specs.Inside.Spots.{verdict, Judged, past, unfit, wordOf, Stops, Forward}
+use Rattle.reading.specs.Inside.Reading.{What, whole, aList, aProcess, someStatements, listensRoles, moreListedRoles, beginningRoles, closingNameRoles, bodyRoles, processesEndRoles, closingPartRoles, Opens, Ready, Reads}
+use Rattle.reading.proofs.Moves.{off, some-moves, stuck-moves, same-moves}
+use Rattle.reading.proofs.Judging.{none-judged, then-judged, token-judged, passes-judged}
+use Rattle.reading.proofs.Words.{Only, Worded, worded, only-word}
+use Rattle.reading.proofs.Generic.{near, within-text, reads-off, reads-stuck}
+use Rattle.statements.proofs.Statements.{onto-done, only-process}
 
 part-next : (u : Part) → next (closing u) (fixed (partWord u)) ≡ some record { push = closingName ∷ []; build = λ ws. (true, ws .0) }
 part-next entityPart = refl

@@ -11,7 +11,7 @@ ghost use mathlib.Core.List.{List};
 ghost use Prim.Native.Nat.{ℕ, _≤_};
 ghost use lib.ListN.{length};
 ghost use Rattle.syntax.proofs.Rows.{aName, initialValue, moreSignals, signals};
-ghost use Rattle.reader.specs.Inside.Reading.{Ready, Reads, Named, whole, declaresRoles, initialRoles, moreSignalsRoles, signalsRoles};
+ghost use Rattle.reading.specs.Inside.Reading.{Ready, Reads, Named, whole, declaresRoles, initialRoles, moreSignalsRoles, signalsRoles};
 
 // A name that nothing is said of.
 pub fn name(text: &[u8], p: Spot) -> Spot

@@ -23,7 +23,7 @@ ghost use Rattle.ledger.specs.Inside.Standing.{Sound, Keeps, Span, nameOption};
 ghost use Rattle.names.specs.Judge.{fine, start};
 ghost use Rattle.names.specs.Text.{Scanned};
 ghost use Rattle.reader.specs.Answers.{Answers};
-ghost use Rattle.reader.specs.Inside.Reading.{Ready, Reads, whole, belongsRoles, closingPartRoles};
+ghost use Rattle.reading.specs.Inside.Reading.{Ready, Reads, whole, belongsRoles, closingPartRoles};
 ghost use Rattle.reader.specs.Inside.Designs.{Finished, Behind, Designed, Surveyed};
 
 // The name after `of`; the entity's own goes from one place to another.

@@ -11,7 +11,7 @@ use look::peek;
 ghost use mathlib.Core.Path.{_≡_};
 ghost use Prim.Native.Nat.{_≤_};
 ghost use lib.ListN.{length};
-ghost use Rattle.reader.specs.Inside.Spots.{wordOf};
+ghost use Rattle.reading.specs.Inside.Spots.{wordOf};
 
 // Where reading stands: a place of the text and the address of the next instruction; or refusal 3 or 4 (number) and its place.
 pub struct Spot {

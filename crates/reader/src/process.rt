@@ -18,8 +18,8 @@ ghost use lib.ListN.{length};
 ghost use Rattle.syntax.proofs.Rows.{aName, moreListed, closingName, processBody, processes, beginning as beginningSymbol};
 ghost use Rattle.look.specs.Inside.Looks.{lookOf};
 ghost use Rattle.ledger.specs.Inside.Standing.{Span, nameOption};
-ghost use Rattle.reader.specs.Inside.Spots.{wordOf, Forward};
-ghost use Rattle.reader.specs.Inside.Reading.{Ready, Reads, Opens, whole, aList, aProcess, listensRoles, moreListedRoles, beginningRoles, closingNameRoles, bodyRoles, processesEndRoles};
+ghost use Rattle.reading.specs.Inside.Spots.{wordOf, Forward};
+ghost use Rattle.reading.specs.Inside.Reading.{Ready, Reads, Opens, whole, aList, aProcess, listensRoles, moreListedRoles, beginningRoles, closingNameRoles, bodyRoles, processesEndRoles};
 
 // A name in a sensitivity list.
 fn listened(text: &[u8], ledger: &mut [u64; 328], table: &mut [u64], p: Spot) -> Spot

@@ -1,4 +1,4 @@
--- Laws of every reader: a refused spot stays, a token that fits nowhere is refused 3, and the address of the next instruction does not count.
+-- Laws of every reader: a refused spot stays, a token that fits nowhere is refused 3, and the address of the next instruction does not count for the machine.
 -- Assumes nothing.
 use Prim.Native.Nat.{ℕ, _+_, _<_, _≤_}
 use native.Mathlib.Omega.{arith}
@@ -18,11 +18,11 @@ use Rattle.look.specs.Inside.Looks.{part, lookOf}
 use Rattle.look.proofs.Looks.{There, View, there, gone, seen, seen-there}
 use Rattle.look.proofs.Numbers.{fixedKind, takenBy}
 use Rattle.ledger.specs.Inside.Standing.{Span, Sound, Held, Judges}
-use Rattle.reader.specs.declared.Spot.{Spot}
-use Rattle.reader.specs.Inside.Spots.{verdict, judgement, Judged, past, unfit, wordOf}
-use Rattle.reader.specs.Inside.Reading.{What, whole, anExpression, aTail, aStatement, someStatements, aList, aMore, aProcess, given, closes, Tree, Context, top, step, roles, Ready, Reads, Named}
-use Rattle.reader.proofs.Moves.{off, stuck-moves}
-use Rattle.reader.proofs.Words.{worded}
+use Rattle.reading.specs.declared.Spot.{Spot}
+use Rattle.reading.specs.Inside.Spots.{verdict, Judged, past, unfit, wordOf, addressed}
+use Rattle.reading.specs.Inside.Reading.{What, whole, anExpression, aTail, aStatement, someStatements, aList, aMore, aProcess, given, closes, Tree, Context, top, step, roles, Ready, Reads, Named}
+use Rattle.reading.proofs.Moves.{off, stuck-moves}
+use Rattle.reading.proofs.Words.{worded}
 
 -- where a look stands
 pub near : {s : List ℕ} {at : ℕ} {t : Look} → View s at t → at ≤ length s → at ≤ t .start
@@ -35,7 +35,7 @@ within-text (gone x) = omega (arith, x .start)
 
 -- some tree, where a refusal leaves none
 filler : (w : What) → Tree w
-filler (whole X f) = fill X
+filler (whole X f g) = fill X
 filler anExpression = expression (plain (named [])) alone
 filler aTail = alone
 filler aStatement = null
@@ -44,9 +44,9 @@ filler aList = unlisted
 filler (aMore d) = enough
 filler aProcess = process none unlisted false done none
 filler (given X v f) = tt
-filler (closes b f) = fill-closing b
+filler (closes b f g) = fill-closing b
 
-pub reads-off : (w : What) {s : List ℕ} {room : ℕ} {p : Spot} {l l′ : List ℕ} → p .at ≤ length s → (p .number ≡ 0 → ⊥) → Reads w s room p p l l′
+pub reads-off : (w : What) {s : List ℕ} {room : ℕ} {p : Spot} {l l′ v v′ : List ℕ} → p .at ≤ length s → (p .number ≡ 0 → ⊥) → Reads w s room p p l l′ v v′
 reads-off w {s} {room} {p} h f =
     record {
       tree = filler w;
@@ -57,32 +57,24 @@ reads-off w {s} {room} {p} h f =
       judges = λ e. absurd (f e);
     }
 
-pub reads-stuck : (w : What) {s : List ℕ} {room : ℕ} {p : Spot} {n : ℕ} {l l′ : List ℕ} {t : Look} → p .at ≤ length s → p .number ≡ 0 → t ≡ lookOf s (p .at)
+pub reads-stuck : (w : What) {s : List ℕ} {room : ℕ} {p : Spot} {n : ℕ} {l l′ v v′ : List ℕ} {t : Look} → p .at ≤ length s → p .number ≡ 0 → t ≡ lookOf s (p .at)
     → ((c : Context w) (small : t .kind < 117) → takenBy (part s (t .start) (t .end)) (t .kind) small (rows (top w c)) ≡ false)
-    → Reads w s room p (unfit t n) l l′
+    → Reads w s room p (unfit t n) l l′ v v′
 reads-stuck w {s} {room} {p} {n} {t = t} h f e g =
-    let v = seen h e in
+    let sight = seen h e in
     record {
       tree = filler w;
       fine = λ _. f;
-      ahead = near v h;
-      inside = within-text v;
-      moves = λ c ss k u. stuck-moves s p f n (top w c) v (g c) ss (step w (filler w) c .push ++ ss) k (λ us. k (made Value (step w (filler w) c) ss us));
+      ahead = near sight h;
+      inside = within-text sight;
+      moves = λ c ss k u. stuck-moves s p f n (top w c) sight (g c) ss (step w (filler w) c .push ++ ss) k (λ us. k (made Value (step w (filler w) c) ss us));
       judges = λ z. absurd (omega (arith, z));
     }
 
--- a spot with another address
-abbrev pub addressed : Spot → ℕ → Spot
-addressed p n = record { number = p .number; at = p .at; next = n }
-
-module _ {w : What} {s : List ℕ} {room : ℕ} {p q : Spot} {l l′ : List ℕ} where
-  pub reads-to : (n : ℕ) → Reads w s room p q l l′ → Reads w s room p (addressed q n) l l′
-  unfolding verdict
-  reads-to n d = record { tree = d .tree; fine = d .fine; ahead = d .ahead; inside = d .inside; moves = d .moves; judges = λ e. let j = d .judges e in record { after = j .after; keeps = j .keeps; folds = j .folds } }
-
-  pub reads-from : {n : ℕ} → Reads w s room (addressed p n) q l l′ → Reads w s room p q l l′
-  unfolding verdict
-  reads-from d = record { tree = d .tree; fine = d .fine; ahead = d .ahead; inside = d .inside; moves = d .moves; judges = λ e. let j = d .judges e in record { after = j .after; keeps = j .keeps; folds = j .folds } }
+-- the address does not count
+pub to-address : (s : List ℕ) (q : Spot) (n : ℕ) (ss : List Symbol) (k : Values Value ss → Design) → verdict s q ss k ≡ verdict s (addressed q n) ss k
+unfolding verdict
+to-address s q n ss k = refl
 
 -- WHAT A CALL NEEDS
 
@@ -108,12 +100,12 @@ module _ {u : ℕ} {s : List ℕ} {p : Spot} {l : List ℕ} (r : Ready u s p l) 
   ready-word w e = let d = worded w (r .inside) e in record { inside = d .inside; sound = λ f. r .sound (d .fine f) }
 
 -- past what a call has read
-pub ready-reads : {w : What} {s : List ℕ} {room : ℕ} {p q : Spot} {l l′ : List ℕ} → Ready 0 s p l → Reads w s room p q l l′ → Ready 0 s q l′
+pub ready-reads : {w : What} {s : List ℕ} {room : ℕ} {p q : Spot} {l l′ v v′ : List ℕ} → Ready 0 s p l → Reads w s room p q l l′ v v′ → Ready 0 s q l′
 ready-reads r d =
     record { inside = d .inside; sound = λ f. let b = r .sound (d .fine f) in record { judgement = _; keeps = d .judges f .keeps (b .judgement) (b .keeps) } }
 
 pub ready-at : {u : ℕ} {s : List ℕ} {p : Spot} {n : ℕ} {l : List ℕ} → Ready u s p l → Ready u s (addressed p n) l
 ready-at r = record { inside = r .inside; sound = r .sound }
 
-pub ready-named : {s : List ℕ} {p q : Spot} {l : List ℕ} → Ready 0 s p l → Named s p q l → Ready 0 s q l
+pub ready-named : {s : List ℕ} {p q : Spot} {l v : List ℕ} → Ready 0 s p l → Named s p q l v → Ready 0 s q l
 ready-named r d = ready-reads r (d .reads)

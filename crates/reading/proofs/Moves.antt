@@ -22,8 +22,8 @@ use Rattle.look.specs.declared.Look.{Look}
 use Rattle.look.specs.Inside.Looks.{part, lookOf, tokenOfKind, tokenOfLook}
 use Rattle.look.proofs.Looks.{placed, There, Gone, View, there, gone, seen}
 use Rattle.look.proofs.Numbers.{fixedKind, takenBy, stuck, fixed-token}
-use Rattle.reader.specs.declared.Spot.{Spot}
-use Rattle.reader.specs.Inside.Spots.{tokensFrom, startsFrom, placedVerdict, machine, denied, verdict, past, unfit, deep, wordFrom, wordOf}
+use Rattle.reading.specs.declared.Spot.{Spot}
+use Rattle.reading.specs.Inside.Spots.{tokensFrom, startsFrom, placedVerdict, machine, denied, verdict, past, unfit, deep, wordFrom, wordOf}
 
 placed-later : (e p : ℕ) (ps : List ℕ) (o : Verdict Design) → placedVerdict e (p ∷ ps) (later o) ≡ placedVerdict e ps o
 placed-later e p ps (accepted d) = refl

@@ -21,15 +21,15 @@ use Rattle.look.specs.declared.Look.{Look}
 use Rattle.look.specs.Inside.Looks.{part, lookOf, tokenOfKind, tokenOfLook}
 use Rattle.look.proofs.Looks.{There, View, there, gone, seen}
 use Rattle.look.proofs.Numbers.{fixedKind, takenBy, fixed-seen}
-use Rattle.reader.specs.declared.Spot.{Spot}
-use Rattle.reader.specs.Inside.Spots.{verdict, Judged, past, unfit, wordFrom, wordOf}
-use Rattle.reader.proofs.Moves.{off, some-moves, stuck-moves}
-use Rattle.reader.proofs.Judging.{passes-judged}
+use Rattle.reading.specs.declared.Spot.{Spot}
+use Rattle.reading.specs.Inside.Spots.{verdict, Judged, past, unfit, wordFrom, wordOf}
+use Rattle.reading.proofs.Moves.{off, some-moves, stuck-moves}
+use Rattle.reading.proofs.Judging.{passes-judged}
 
 -- what can have happened
 data Way (s : List ℕ) (p : Spot) (kind : ℕ) : Spot → Type 0 where
   stays : (p .number ≡ 0 → ⊥) → Way s p kind p
-  takes : {t : Look} {n : ℕ} → p .number ≡ 0 → There s (p .at) t → t .kind ≡ kind → Way s p kind (past t n)
+  takes : {t : Look} → p .number ≡ 0 → There s (p .at) t → t .kind ≡ kind → Way s p kind (past t (p .next))
   refuses : {t : Look} {n : ℕ} → p .number ≡ 0 → t ≡ lookOf s (p .at) → (t .kind ≡ kind → ⊥) → Way s p kind (unfit t n)
 
 by-kind : (s : List ℕ) (p : Spot) (kind : ℕ) (t : Look) → (kind ≡ 117 → ⊥) → p .number ≡ 0 → t ≡ lookOf s (p .at) → View s (p .at) t
@@ -61,7 +61,7 @@ pub record Worded (w : Fixed) (s : List ℕ) (p q : Spot) : Type 0 where
   pub moves : (X : Symbol) (st : Step Value X) → next X (fixed w) ≡ some st → Only s p X w
       → (ss : List Symbol) (k : Values Value (X ∷ ss) → Design) → weights weight (st .push ++ ss) ≤ mostOpen
       → verdict s p (X ∷ ss) k ≡ verdict s q (st .push ++ ss) (λ us. k (made Value st ss us))
-  pub judges : q .number ≡ 0 → {u : ℕ} {l : List ℕ} → Judged u u s p q l l (λ r. passes ∷ r)
+  pub judges : q .number ≡ 0 → {u : ℕ} {l v : List ℕ} → Judged u u s p q l l v v (λ r. passes ∷ r) (λ m. m)
 
 fixed-end : (w : Fixed) → fixedKind w ≡ 117 → ⊥
 fixed-end ENTITY e = omega arith
@@ -98,14 +98,14 @@ worded-way {w} {s} {p} h (stays f) =
       moves = λ X st n o ss k d. off s p f (X ∷ ss) (st .push ++ ss) k (λ us. k (made Value st ss us));
       judges = λ e. absurd (f e);
     }
-worded-way {w} {s} {p} h (takes {t} {n} f x e) =
+worded-way {w} {s} {p} h (takes {t} f x e) =
     record {
       fine = λ _. f;
       ahead = omega (arith, x .after, x .some);
       inside = x .inside;
       further = λ _. omega (arith, x .after, x .some);
-      moves = λ X st m o ss k d. some-moves s p f n X x st (ap (next X) (fixed-seen s t w e) ∙ m) ss k d;
-      judges = λ _. passes-judged x n;
+      moves = λ X st m o ss k d. some-moves s p f (p .next) X x st (ap (next X) (fixed-seen s t w e) ∙ m) ss k d;
+      judges = λ _. passes-judged x;
     }
 worded-way {w} {s} {p} h (refuses {t} {n} f e g) = refused-way (seen h e)
   where

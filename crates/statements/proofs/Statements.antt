@@ -25,13 +25,13 @@ use Rattle.look.specs.Inside.Looks.{part, nameAt, lookOf, tokenOfKind, tokenOfL
 use Rattle.look.proofs.Looks.{There, View, there, gone, seen, seen-there}
 use Rattle.look.proofs.Numbers.{takenBy, misfit, unit-token, name-seen, integer-seen, fixed-seen}
 use Rattle.ledger.specs.Inside.Standing.{Judges}
-use Rattle.reader.specs.declared.Spot.{Spot}
-use Rattle.reader.specs.Inside.Spots.{verdict, Judged, past, unfit, deep, wordOf, endIfOf, starter, Stops, Forward}
-use Rattle.reader.specs.Inside.Reading.{What, whole, anExpression, aStatement, someStatements, closes, onto, endingRoles, finishRoles, Reads}
-use Rattle.reader.proofs.Moves.{off, some-moves, deep-moves, stuck-moves, same-moves}
-use Rattle.reader.proofs.Judging.{none-judged, then-judged, token-judged, passes-judged}
-use Rattle.reader.proofs.Words.{Only, Worded, worded, only-word}
-use Rattle.reader.proofs.Generic.{near, within-text, reads-off, reads-stuck, addressed, reads-to, reads-from}
+use Rattle.reading.specs.declared.Spot.{Spot}
+use Rattle.reading.specs.Inside.Spots.{verdict, Judged, past, unfit, deep, wordOf, endIfOf, starter, Stops, Forward}
+use Rattle.reading.specs.Inside.Reading.{What, whole, anExpression, aStatement, someStatements, closes, onto, endingRoles, finishRoles, Reads}
+use Rattle.reading.proofs.Moves.{off, some-moves, deep-moves, stuck-moves, same-moves}
+use Rattle.reading.proofs.Judging.{none-judged, then-judged, token-judged, passes-judged}
+use Rattle.reading.proofs.Words.{Only, Worded, worded, only-word}
+use Rattle.reading.proofs.Generic.{near, within-text, reads-off, reads-stuck, addressed, reads-to, reads-from}
 
 abbrev pub anEnding : What
 anEnding = whole (anEnd inAssignment) endingRoles

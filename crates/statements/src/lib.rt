@@ -15,8 +15,8 @@ ghost use Prim.Native.Nat.{ℕ, _≤_, _<_};
 ghost use lib.ListN.{length};
 ghost use Rattle.syntax.proofs.Rows.{anEnd, inAssignment, inThen};
 ghost use Rattle.look.specs.Inside.Looks.{lookOf};
-ghost use Rattle.reader.specs.Inside.Spots.{Forward, endIfOf, starter, Stops};
-ghost use Rattle.reader.specs.Inside.Reading.{Ready, Reads, whole, aStatement, someStatements, closes, endingRoles, finishRoles};
+ghost use Rattle.reading.specs.Inside.Spots.{Forward, endIfOf, starter, Stops};
+ghost use Rattle.reading.specs.Inside.Reading.{Ready, Reads, whole, aStatement, someStatements, closes, endingRoles, finishRoles};
 
 // Where reading stands behind an assignment, and its delay.
 pub struct Ending {

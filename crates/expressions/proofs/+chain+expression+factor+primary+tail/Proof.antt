@@ -1,44 +1,45 @@
 -- The readers of expressions meet their contracts: each return by its law. The nesting room falls along the cycle.
 -- Assumes nothing.
 use mathlib.Core.List.{List}
-use Rattle.look.specs.Inside.Looks.{chainOf}
+use Rattle.look.specs.Inside.Looks.{chainOf, literalOf}
+use Rattle.table.specs.Instructions.{Instruction}
+use Rattle.layout.specs.TableWords.{operationWord}
 use Rattle.look.proofs.Looks.{seen-there}
-use Rattle.reader.specs.declared.Spot.{Spot}
-use Rattle.reader.specs.Inside.Reading.{Ready, Reads, aMore}
-use Rattle.reader.proofs.Generic.{reads-off, span, held, ready-token, ready-pass, ready-reads, ready-at}
-use Rattle.reader.proofs.Expressions.{primary-name, primary-literal, primary-none, primary-deep, primary-bracket, factor-plain, factor-not, expression-then, tail-low, tail-high, tail-once, tail-chain, chain-none, chain-more}
+use Rattle.reading.specs.declared.Spot.{Spot}
+use Rattle.reading.specs.Inside.Reading.{Ready, Reads, aMore}
+use Rattle.reading.proofs.Generic.{reads-off, span, held, ready-token, ready-pass, ready-reads, ready-at}
+use Rattle.expressions.proofs.Expressions.{primary-name, primary-literal, primary-none, primary-deep, primary-bracket, factor-plain, factor-not, expression-then, tail-low, tail-high, tail-once, tail-chain, chain-none, chain-more}
 use Prim.Native.Nat.{ℕ, _+_, _-_, _*_, _<_, _≤_}
 use mathlib.Core.Path.{_≡_, refl, sym, ap, _∙_}
 use mathlib.Core.Logic.{⊎-elim}
 use native.Mathlib.Omega.{arith}
 use borrow.Author.Needs.{needs}
 use lib.ListN.{length, getD}
-use Rattle.reader.specs.Inside
 use borrow.Fn.Kinds.{In}
 use borrow.Fn.PlainCycle.{Measures, is, falls, and}
-use Rattle.reader.proofs.expression.chain.Reads as chain
-use Rattle.reader.proofs.expression.chain.Kinds as chain-kinds
-use Rattle.reader.proofs.expression.+chain+expression+factor+primary+tail.Lts-chain as chain-lts
-use Rattle.reader.proofs.expression.expression.Reads as expression
-use Rattle.reader.proofs.expression.expression.Kinds as expression-kinds
-use Rattle.reader.proofs.expression.+chain+expression+factor+primary+tail.Lts-expression as expression-lts
-use Rattle.reader.proofs.expression.factor.Reads as factor
-use Rattle.reader.proofs.expression.factor.Kinds as factor-kinds
-use Rattle.reader.proofs.expression.+chain+expression+factor+primary+tail.Lts-factor as factor-lts
-use Rattle.reader.proofs.expression.primary.Reads as primary
-use Rattle.reader.proofs.expression.primary.Kinds as primary-kinds
-use Rattle.reader.proofs.expression.+chain+expression+factor+primary+tail.Lts-primary as primary-lts
-use Rattle.reader.proofs.expression.tail.Reads as tail
-use Rattle.reader.proofs.expression.tail.Kinds as tail-kinds
-use Rattle.reader.proofs.expression.+chain+expression+factor+primary+tail.Lts-tail as tail-lts
+use Rattle.expressions.proofs.chain.Reads as chain
+use Rattle.expressions.proofs.chain.Kinds as chain-kinds
+use Rattle.expressions.proofs.+chain+expression+factor+primary+tail.Lts-chain as chain-lts
+use Rattle.expressions.proofs.expression.Reads as expression
+use Rattle.expressions.proofs.expression.Kinds as expression-kinds
+use Rattle.expressions.proofs.+chain+expression+factor+primary+tail.Lts-expression as expression-lts
+use Rattle.expressions.proofs.factor.Reads as factor
+use Rattle.expressions.proofs.factor.Kinds as factor-kinds
+use Rattle.expressions.proofs.+chain+expression+factor+primary+tail.Lts-factor as factor-lts
+use Rattle.expressions.proofs.primary.Reads as primary
+use Rattle.expressions.proofs.primary.Kinds as primary-kinds
+use Rattle.expressions.proofs.+chain+expression+factor+primary+tail.Lts-primary as primary-lts
+use Rattle.expressions.proofs.tail.Reads as tail
+use Rattle.expressions.proofs.tail.Kinds as tail-kinds
+use Rattle.expressions.proofs.+chain+expression+factor+primary+tail.Lts-tail as tail-lts
 use Rattle.ledger.proofs.count.Reads as count-reads
 use Rattle.ledger.proofs.read_signal.Reads as read-signal-reads
 use Rattle.look.proofs.peek.Reads as peek-reads
-use Rattle.reader.proofs.emission.binary.Reads as binary-reads
-use Rattle.reader.proofs.emission.emit.Reads as emit-reads
-use Rattle.reader.proofs.word.Reads as word-reads
-use Rattle.reader.proofs.expression.+chain+expression+factor+primary+tail.{statement}
-use Rattle.reader.proofs.expression.+chain+expression+factor+primary+tail.Tie.{close}
+use Rattle.emission.proofs.binary.Reads as binary-reads
+use Rattle.emission.proofs.emit.Reads as emit-reads
+use Rattle.reading.proofs.word.Reads as word-reads
+use Rattle.expressions.proofs.+chain+expression+factor+primary+tail.{statement}
+use Rattle.expressions.proofs.+chain+expression+factor+primary+tail.Tie.{close}
 
 abbrev μ-chain : Measures 3 chain-kinds.ps ℕ
 μ-chain κs a = 8 * (a .1 .1 .1 .1 .0) + 2
@@ -88,7 +89,7 @@ abbrev tail-below : ℕ → In 3 tail-kinds.ps
 tail-below t = and 3 tail-kinds.ps (falls 3 tail-kinds.ps _<_ μ-tail t) tail.Pre
 
 abbrev chain-Inv-loop : chain-lts.InvT-loop
-chain-Inv-loop text ledger₀ table₀ room kind p₀ ledger table p = Ready 0 text p ledger × ((q : Spot) (l : List ℕ) → Reads (aMore (chainOf kind)) text room p q ledger l → Reads (aMore (chainOf kind)) text room p₀ q ledger₀ l) × (length table ≡ length table₀)
+chain-Inv-loop text ledger₀ table₀ room kind p₀ ledger table p = Ready 0 text p ledger × ((q : Spot) (l v : List ℕ) → Reads (aMore (chainOf kind)) text room p q ledger l table v → Reads (aMore (chainOf kind)) text room p₀ q ledger₀ l table₀ v) × (length table ≡ length table₀)
 
 abbrev chain-μ-loop : chain-lts.MeasureT-loop
 chain-μ-loop text ledger₀ table₀ room kind p₀ ledger table p = length text - p .at
@@ -109,7 +110,7 @@ abbrev tail-in : ℕ → tail-lts.Claims
 tail-in t = (peek-reads.Asked, peek-reads.Learnt, count-reads.Asked, count-reads.Learnt, factor-below t, factor.Post, binary-reads.Asked, binary-reads.Learnt, emit-reads.Asked, emit-reads.Learnt, chain-below t, chain.Post)
 
 chain-loop-holds : (t : ℕ) → chain-lts.Need-loop-holds (chain-in t) (chain-at t) chain.Post chain-Inv-loop chain-μ-loop
-chain-loop-holds t c = (c .before .before .pre .1 .0, (λ q l d. d), refl)
+chain-loop-holds t c = (c .before .before .pre .1 .0, (λ q l v d. d), refl)
 
 chain-peek-requires : (t : ℕ) → chain-lts.Need-peek-requires (chain-in t) (chain-at t) chain.Post chain-Inv-loop chain-μ-loop
 chain-peek-requires t c κs = c .before .before .loop .inv .0 .inside
@@ -118,7 +119,7 @@ chain-same-length : (t : ℕ) → chain-lts.Need-same-length (chain-in t) (chain
 chain-same-length t c = search needs
 
 chain-returns : (t : ℕ) → chain-lts.Need-returns (chain-in t) (chain-at t) chain.Post chain-Inv-loop chain-μ-loop
-chain-returns t c = c .before .before .before .before .before .loop .inv .1 _ _ (chain-none (c .before .before .before .before .before .loop .inv .0 .inside) (c .before .before .before .if1 .taken) (c .before .before .peek .ensures) (c .before .before .before .before .before .before .before .before .pre .1 .1) (c .before .before .before .before .before .before .before .before .pre .1 .2) (c .if2 .taken))
+chain-returns t c = c .before .before .before .before .before .loop .inv .1 _ _ _ (chain-none (c .before .before .before .before .before .loop .inv .0 .inside) (c .before .before .before .if1 .taken) (c .before .before .peek .ensures) (c .before .before .before .before .before .before .before .before .pre .1 .1) (c .before .before .before .before .before .before .before .before .pre .1 .2) (c .if2 .taken))
 
 chain-count-requires : (t : ℕ) → chain-lts.Need-count-requires (chain-in t) (chain-at t) chain.Post chain-Inv-loop chain-μ-loop
 chain-count-requires t c κs = (held (c .before .before .before .before .before .before .loop .inv .0 .sound (c .before .before .before .before .if1 .taken)), omega arith)
@@ -140,7 +141,7 @@ chain-loop-less t c =
 chain-loop-again : (t : ℕ) → chain-lts.Need-loop-again (chain-in t) (chain-at t) chain.Post chain-Inv-loop chain-μ-loop
 chain-loop-again t c = (
   ready-at (ready-reads (ready-token (c .before .before .before .before .before .before .before .before .before .before .before .before .before .before .before .before .before .loop .inv .0) (c .before .before .before .before .before .before .before .before .before .before .before .before .before .before .before .if1 .taken) (c .before .before .before .before .before .before .before .before .before .before .before .before .before .before .peek .ensures) (λ z. omega (arith, c .before .before .before .before .before .before .before .before .before .before .before .before .if2 .left, c .before .before .before .before .before .before .before .before .before .before .before .before .before .before .before .before .before .before .before .before .pre .1 .2, z)) (c .before .before .before .before .before .before .before .before .before .before .count .ensures (c .before .before .before .before .before .before .before .before .before .before .before .before .before .before .before .before .before .before .before .before .args .text .now))) (c .before .before .before .before .before .before .before .factor .ensures)),
-  λ q l d. c .before .before .before .before .before .before .before .before .before .before .before .before .before .before .before .before .before .loop .inv .1 q l (chain-more (c .before .before .before .before .before .before .before .before .before .before .before .before .before .before .before .before .before .loop .inv .0 .inside) (c .before .before .before .before .before .before .before .before .before .before .before .before .before .before .before .if1 .taken) (c .before .before .before .before .before .before .before .before .before .before .before .before .before .before .peek .ensures) (c .before .before .before .before .before .before .before .before .before .before .before .before .before .before .before .before .before .before .before .before .pre .1 .1) (c .before .before .before .before .before .before .before .before .before .before .before .before .before .before .before .before .before .before .before .before .pre .1 .2) (c .before .before .before .before .before .before .before .before .before .before .before .before .if2 .left) (c .before .before .before .before .before .before .before .before .before .before .count .ensures (c .before .before .before .before .before .before .before .before .before .before .before .before .before .before .before .before .before .before .before .before .args .text .now)) (c .before .before .before .before .before .before .before .factor .ensures) d),
+  λ q l v d. c .before .before .before .before .before .before .before .before .before .before .before .before .before .before .before .before .before .loop .inv .1 q l v (chain-more (c .before .before .before .before .before .before .before .before .before .before .before .before .before .before .before .before .before .loop .inv .0 .inside) (c .before .before .before .before .before .before .before .before .before .before .before .before .before .before .before .if1 .taken) (c .before .before .before .before .before .before .before .before .before .before .before .before .before .before .peek .ensures) (c .before .before .before .before .before .before .before .before .before .before .before .before .before .before .before .before .before .before .before .before .pre .1 .1) (c .before .before .before .before .before .before .before .before .before .before .before .before .before .before .before .before .before .before .before .before .pre .1 .2) (c .before .before .before .before .before .before .before .before .before .before .before .before .if2 .left) (c .before .before .before .before .before .before .before .before .before .before .count .ensures (c .before .before .before .before .before .before .before .before .before .before .before .before .before .before .before .before .before .before .before .before .args .text .now)) (c .before .before .before .before .before .before .before .factor .ensures) (c .before .before .emit .ensures .0) (c .before .before .before .binary .ensures) (c .before .before .emit .ensures .1) d),
   search needs,
 )
 
@@ -148,7 +149,7 @@ chain-same-length-2 : (t : ℕ) → chain-lts.Need-same-length-2 (chain-in t) (c
 chain-same-length-2 t c = search needs
 
 chain-returns-2 : (t : ℕ) → chain-lts.Need-returns-2 (chain-in t) (chain-at t) chain.Post chain-Inv-loop chain-μ-loop
-chain-returns-2 t c = c .before .before .loop .inv .1 _ _ (reads-off _ (c .before .before .loop .inv .0 .inside) (c .if1 .left))
+chain-returns-2 t c = c .before .before .loop .inv .1 _ _ _ (reads-off _ (c .before .before .loop .inv .0 .inside) (c .if1 .left))
 
 expression-factor-requires : (t : ℕ) → expression-lts.Need-factor-requires (expression-in t) (expression-at t) expression.Post
 expression-factor-requires t c κs = (omega (arith, c .before .before .before .before .pre .0), c .before .before .before .before .pre .1)
@@ -190,7 +191,7 @@ factor-same-length-2 : (t : ℕ) → factor-lts.Need-same-length-2 (factor-in t)
 factor-same-length-2 t c = search needs
 
 factor-returns-3 : (t : ℕ) → factor-lts.Need-returns-3 (factor-in t) (factor-at t) factor.Post
-factor-returns-3 t c = factor-not (c .before .before .before .before .before .before .before .before .before .before .before .before .before .before .before .before .before .before .pre .1 .inside) (c .before .before .before .before .before .before .before .before .before .before .before .before .before .before .if1 .left) (c .before .before .before .before .before .before .before .before .before .before .before .before .before .peek .ensures) (c .before .before .before .before .before .before .before .before .before .before .before .if2 .left) (c .before .before .before .before .before .before .before .before .before .count .ensures (c .before .before .before .before .before .before .before .before .before .before .before .before .before .before .before .before .before .before .args .text .now)) (c .before .before .before .before .before .before .primary2 .ensures)
+factor-returns-3 t c = factor-not (c .before .before .before .before .before .before .before .before .before .before .before .before .before .before .before .before .before .before .pre .1 .inside) (c .before .before .before .before .before .before .before .before .before .before .before .before .before .before .if1 .left) (c .before .before .before .before .before .before .before .before .before .before .before .before .before .peek .ensures) (c .before .before .before .before .before .before .before .before .before .before .before .if2 .left) (c .before .before .before .before .before .before .before .before .before .count .ensures (c .before .before .before .before .before .before .before .before .before .before .before .before .before .before .before .before .before .before .args .text .now)) (c .before .before .before .before .before .before .primary2 .ensures) (c .before .before .emit .ensures .0) (c .before .before .emit .ensures .1)
 
 primary-returns : (t : ℕ) → primary-lts.Need-returns (primary-in t) (primary-at t) primary.Post
 primary-returns t c = reads-off _ (c .before .before .before .before .pre .1 .inside) (c .if1 .taken)
@@ -211,7 +212,7 @@ primary-same-length : (t : ℕ) → primary-lts.Need-same-length (primary-in t) 
 primary-same-length t c = search needs
 
 primary-returns-2 : (t : ℕ) → primary-lts.Need-returns-2 (primary-in t) (primary-at t) primary.Post
-primary-returns-2 t c = primary-name (c .before .before .before .before .before .before .before .before .before .before .before .before .before .pre .1 .inside) (c .before .before .before .before .before .before .before .before .before .if1 .left) (c .before .before .before .before .before .before .before .before .peek .ensures) _ (c .before .before .before .before .before .before .if2 .taken) (c .before .before .before .before .read-signal .ensures .0)
+primary-returns-2 t c = primary-name (c .before .before .before .before .before .before .before .before .before .before .before .before .before .pre .1 .inside) (c .before .before .before .before .before .before .before .before .before .if1 .left) (c .before .before .before .before .before .before .before .before .peek .ensures) (c .before .before .before .before .before .before .if2 .taken) (c .before .before .before .before .read-signal .ensures .0) (c .before .before .before .before .read-signal .ensures .1) (c .before .before .emit .ensures .0) (c .before .before .emit .ensures .1)
 
 primary-count-requires : (t : ℕ) → primary-lts.Need-count-requires (primary-in t) (primary-at t) primary.Post
 primary-count-requires t c κs = (held (c .before .before .before .before .before .before .before .before .before .before .pre .1 .sound (c .before .before .before .before .before .before .if1 .left)), omega arith)
@@ -223,7 +224,7 @@ primary-same-length-2 : (t : ℕ) → primary-lts.Need-same-length-2 (primary-in
 primary-same-length-2 t c = search needs
 
 primary-returns-3 : (t : ℕ) → primary-lts.Need-returns-3 (primary-in t) (primary-at t) primary.Post
-primary-returns-3 t c = primary-literal (c .before .before .before .before .before .before .before .before .before .before .before .before .before .before .before .pre .1 .inside) (c .before .before .before .before .before .before .before .before .before .before .before .if1 .left) (c .before .before .before .before .before .before .before .before .before .before .peek .ensures) _ (omega (arith, c .before .before .before .before .before .before .if3 .taken)) (omega (arith, c .before .before .before .before .before .before .if3 .taken)) (c .before .before .before .before .count .ensures (c .before .before .before .before .before .before .before .before .before .before .before .before .before .before .before .args .text .now))
+primary-returns-3 t c = primary-literal (c .before .before .before .before .before .before .before .before .before .before .before .before .before .before .before .pre .1 .inside) (c .before .before .before .before .before .before .before .before .before .before .before .if1 .left) (c .before .before .before .before .before .before .before .before .before .before .peek .ensures) (omega (arith, c .before .before .before .before .before .before .if3 .taken)) (omega (arith, c .before .before .before .before .before .before .if3 .taken)) (c .before .before .before .before .count .ensures (c .before .before .before .before .before .before .before .before .before .before .before .before .before .before .before .args .text .now)) (ap (λ k. operationWord (Instruction.literal (literalOf k))) (sym (c .before .before .before .before .before .before .if3 .taken))) (c .before .before .emit2 .ensures .0) (c .before .before .emit2 .ensures .1)
 
 primary-count-requires-2 : (t : ℕ) → primary-lts.Need-count-requires-2 (primary-in t) (primary-at t) primary.Post
 primary-count-requires-2 t c κs = (held (c .before .before .before .before .before .before .before .before .before .before .before .before .pre .1 .sound (c .before .before .before .before .before .before .before .before .if1 .left)), omega arith)
@@ -235,7 +236,7 @@ primary-same-length-3 : (t : ℕ) → primary-lts.Need-same-length-3 (primary-in
 primary-same-length-3 t c = search needs
 
 primary-returns-4 : (t : ℕ) → primary-lts.Need-returns-4 (primary-in t) (primary-at t) primary.Post
-primary-returns-4 t c = primary-literal (c .before .before .before .before .before .before .before .before .before .before .before .before .before .before .before .before .before .pre .1 .inside) (c .before .before .before .before .before .before .before .before .before .before .before .before .before .if1 .left) (c .before .before .before .before .before .before .before .before .before .before .before .before .peek .ensures) _ (omega (arith, c .before .before .before .before .before .before .if4 .taken)) (omega (arith, c .before .before .before .before .before .before .if4 .taken)) (c .before .before .before .before .count2 .ensures (c .before .before .before .before .before .before .before .before .before .before .before .before .before .before .before .before .before .args .text .now))
+primary-returns-4 t c = primary-literal (c .before .before .before .before .before .before .before .before .before .before .before .before .before .before .before .before .before .pre .1 .inside) (c .before .before .before .before .before .before .before .before .before .before .before .before .before .if1 .left) (c .before .before .before .before .before .before .before .before .before .before .before .before .peek .ensures) (omega (arith, c .before .before .before .before .before .before .if4 .taken)) (omega (arith, c .before .before .before .before .before .before .if4 .taken)) (c .before .before .before .before .count2 .ensures (c .before .before .before .before .before .before .before .before .before .before .before .before .before .before .before .before .before .args .text .now)) (ap (λ k. operationWord (Instruction.literal (literalOf k))) (sym (c .before .before .before .before .before .before .if4 .taken))) (c .before .before .emit3 .ensures .0) (c .before .before .emit3 .ensures .1)
 
 primary-returns-5 : (t : ℕ) → primary-lts.Need-returns-5 (primary-in t) (primary-at t) primary.Post
 primary-returns-5 t c = primary-none (c .before .before .before .before .before .before .before .before .before .before .before .before .before .pre .1 .inside) (c .before .before .before .before .before .before .before .before .before .if1 .left) (c .before .before .before .before .before .before .before .before .peek .ensures) _ (c .before .before .before .before .before .before .if2 .left) (c .before .before .before .before .if3 .left) (c .before .before .if4 .left) (c .if5 .taken)
@@ -286,7 +287,7 @@ tail-same-length : (t : ℕ) → tail-lts.Need-same-length (tail-in t) (tail-at 
 tail-same-length t c = search needs
 
 tail-returns-4 : (t : ℕ) → tail-lts.Need-returns-4 (tail-in t) (tail-at t) tail.Post
-tail-returns-4 t c = tail-once (c .before .before .before .before .before .before .before .before .before .before .before .before .before .before .before .before .before .before .before .before .before .before .before .pre .1 .inside) (c .before .before .before .before .before .before .before .before .before .before .before .before .before .before .before .before .before .before .before .if1 .left) (c .before .before .before .before .before .before .before .before .before .before .before .before .before .before .before .before .before .before .peek .ensures) (c .before .before .before .before .before .before .before .before .before .before .before .before .before .before .before .before .if2 .left) (c .if4 .taken) (c .before .before .before .before .before .before .before .before .before .before .before .before .count .ensures (c .before .before .before .before .before .before .before .before .before .before .before .before .before .before .before .before .before .before .before .before .before .before .before .args .text .now)) (c .before .before .before .before .before .before .before .before .before .factor .ensures)
+tail-returns-4 t c = tail-once (c .before .before .before .before .before .before .before .before .before .before .before .before .before .before .before .before .before .before .before .before .before .before .before .pre .1 .inside) (c .before .before .before .before .before .before .before .before .before .before .before .before .before .before .before .before .before .before .before .if1 .left) (c .before .before .before .before .before .before .before .before .before .before .before .before .before .before .before .before .before .before .peek .ensures) (c .before .before .before .before .before .before .before .before .before .before .before .before .before .before .before .before .if2 .left) (c .if4 .taken) (c .before .before .before .before .before .before .before .before .before .before .before .before .count .ensures (c .before .before .before .before .before .before .before .before .before .before .before .before .before .before .before .before .before .before .before .before .before .before .before .args .text .now)) (c .before .before .before .before .before .before .before .before .before .factor .ensures) (c .before .before .before .before .emit .ensures .0) (c .before .before .before .before .before .binary .ensures) (c .before .before .before .before .emit .ensures .1)
 
 tail-chain-requires : (t : ℕ) → tail-lts.Need-chain-requires (tail-in t) (tail-at t) tail.Post
 tail-chain-requires t c κs = (omega (arith, c .before .before .before .before .before .before .before .before .before .before .before .before .before .before .before .before .before .before .before .before .before .before .before .before .before .pre .0), (ready-at (ready-reads (ready-token (c .before .before .before .before .before .before .before .before .before .before .before .before .before .before .before .before .before .before .before .before .before .before .before .before .before .pre .1) (c .before .before .before .before .before .before .before .before .before .before .before .before .before .before .before .before .before .before .before .before .before .if1 .left) (c .before .before .before .before .before .before .before .before .before .before .before .before .before .before .before .before .before .before .before .before .peek .ensures) (λ z. omega (arith, c .before .before .before .before .before .before .before .before .before .before .before .before .before .before .before .before .if3 .left, z)) (c .before .before .before .before .before .before .before .before .before .before .before .before .before .before .count .ensures (c .before .before .before .before .before .before .before .before .before .before .before .before .before .before .before .before .before .before .before .before .before .before .before .before .before .args .text .now))) (c .before .before .before .before .before .before .before .before .before .before .before .factor .ensures)), c .before .before .if4 .left, c .before .before .before .before .before .before .before .before .before .before .before .before .before .before .before .before .if3 .left))
@@ -295,7 +296,7 @@ tail-same-length-2 : (t : ℕ) → tail-lts.Need-same-length-2 (tail-in t) (tail
 tail-same-length-2 t c = search needs
 
 tail-returns-5 : (t : ℕ) → tail-lts.Need-returns-5 (tail-in t) (tail-at t) tail.Post
-tail-returns-5 t c = tail-chain (c .before .before .before .before .before .before .before .before .before .before .before .before .before .before .before .before .before .before .before .before .before .before .before .before .before .before .before .before .pre .1 .inside) (c .before .before .before .before .before .before .before .before .before .before .before .before .before .before .before .before .before .before .before .before .before .before .before .before .if1 .left) (c .before .before .before .before .before .before .before .before .before .before .before .before .before .before .before .before .before .before .before .before .before .before .before .peek .ensures) (c .before .before .before .before .before .if4 .left) (c .before .before .before .before .before .before .before .before .before .before .before .before .before .before .before .before .before .before .before .if3 .left) (c .before .before .before .before .before .before .before .before .before .before .before .before .before .before .before .before .before .count .ensures (c .before .before .before .before .before .before .before .before .before .before .before .before .before .before .before .before .before .before .before .before .before .before .before .before .before .before .before .before .args .text .now)) (c .before .before .before .before .before .before .before .before .before .before .before .before .before .before .factor .ensures) (c .before .before .chain .ensures)
+tail-returns-5 t c = tail-chain (c .before .before .before .before .before .before .before .before .before .before .before .before .before .before .before .before .before .before .before .before .before .before .before .before .before .before .before .before .pre .1 .inside) (c .before .before .before .before .before .before .before .before .before .before .before .before .before .before .before .before .before .before .before .before .before .before .before .before .if1 .left) (c .before .before .before .before .before .before .before .before .before .before .before .before .before .before .before .before .before .before .before .before .before .before .before .peek .ensures) (c .before .before .before .before .before .if4 .left) (c .before .before .before .before .before .before .before .before .before .before .before .before .before .before .before .before .before .before .before .if3 .left) (c .before .before .before .before .before .before .before .before .before .before .before .before .before .before .before .before .before .count .ensures (c .before .before .before .before .before .before .before .before .before .before .before .before .before .before .before .before .before .before .before .before .before .before .before .before .before .before .before .before .args .text .now)) (c .before .before .before .before .before .before .before .before .before .before .before .before .before .before .factor .ensures) (c .before .before .before .before .before .before .before .before .before .emit .ensures .0) (c .before .before .before .before .before .before .before .before .before .before .binary .ensures) (c .before .before .before .before .before .before .before .before .before .emit .ensures .1) (c .before .before .chain .ensures)
 
 pub +chain+expression+factor+primary+tail-spec : {M : Type 1} → statement M
 +chain+expression+factor+primary+tail-spec =

@@ -17,9 +17,9 @@ use Rattle.names.specs.Text.{accepts, refuses, Gets}
 use Rattle.ledger.specs.Inside.Standing.{Keeps}
 use Rattle.reader.specs.declared.design.Checked.{Checked}
 use Rattle.reader.specs.declared.design.Checked.the-variants.{Accepted, Refused}
-use Rattle.reader.specs.declared.Spot.{Spot}
-use Rattle.reader.specs.Inside.Spots.{tokensFrom, verdict, Judged, wordOf}
-use Rattle.reader.specs.Inside.Reading.{theName}
+use Rattle.reading.specs.declared.Spot.{Spot}
+use Rattle.reading.specs.Inside.Spots.{tokensFrom, verdict, Judged, wordOf}
+use Rattle.reading.specs.Inside.Reading.{theName}
 
 -- the end of the text
 pub record Finished (s : List ℕ) (p q : Spot) : Type 0 where

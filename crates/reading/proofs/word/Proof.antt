@@ -1,13 +1,13 @@
--- `reader::word` meets its contract: case by case.
+-- `reading::word` meets its contract: case by case.
 -- Assumes nothing.
 use mathlib.Core.Path.{_≡_, refl, sym, ap, _∙_}
 use native.Mathlib.Omega.{arith}
 use borrow.Author.Needs.{needs}
 use borrow.Author.Tests.{eq-eqb, ne-eqb}
 use Rattle.look.specs.declared.Look.{Look}
-use Rattle.reader.specs.Inside.Spots.{wordFrom, wordOf}
-use Rattle.reader.proofs.word.Statement.{statement}
-use Rattle.reader.proofs.word.Tie as tie
+use Rattle.reading.specs.Inside.Spots.{wordFrom, wordOf}
+use Rattle.reading.proofs.word.Statement.{statement}
+use Rattle.reading.proofs.word.Tie as tie
 
 returns : tie.Need-returns
 unfolding wordOf

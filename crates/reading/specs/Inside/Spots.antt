@@ -1,4 +1,4 @@
--- Where reading stands: the grammar's machine and the judge, from a spot of a text on.
+-- Where reading stands: the grammar's machine, the judge and the draft of the table, from a spot of a text on.
 -- Assumes nothing: these are definitions.
 use Prim.Native.Nat.{ℕ, _+_, _<_, _≤_}
 use mathlib.Core.Path.{_≡_}
@@ -16,11 +16,12 @@ use Rattle.syntax.proofs.Machine.{Values}
 use Rattle.syntax.proofs.Rows.{Symbol, Value}
 use Rattle.syntax.proofs.Theorem.{run}
 use Rattle.names.specs.Roles.{Role}
-use Rattle.names.specs.Judge.{Judgement, onward, judged}
+use Rattle.names.specs.Judge.{State, Judgement, fine, onward, judged}
+use Rattle.emission.specs.Inside.Draft.{Draft}
 use Rattle.look.specs.declared.Look.{Look}
 use Rattle.look.specs.Inside.Looks.{lookOf}
 use Rattle.ledger.specs.Inside.Standing.{Keeps}
-use Rattle.reader.specs.declared.Spot.{Spot}
+use Rattle.reading.specs.declared.Spot.{Spot}
 
 abbrev pub tokensFrom : List ℕ → ℕ → List Placed
 tokensFrom s at = tokensAt at (drop at s)
@@ -49,11 +50,21 @@ verdict s p ss k = pick (eqb (p .number) 0) (machine s (p .at) ss k) (denied (p 
 unfoldable pub judgement : List ℕ → ℕ → Judgement → List Role → Judgement
 judgement s at j rs = onward j (λ y. judged y rs (startsFrom s at))
 
--- between two spots the judge met the tokens in these roles, and the ledger kept what it says; so many labels are not yet opened
-pub record Judged (u u′ : ℕ) (s : List ℕ) (p q : Spot) (l l′ : List ℕ) (roles : List Role → List Role) : Type 0 where
+-- what is written of the table, where y is what the tokens so far say
+abbrev pub drafted : State → List ℕ → ℕ → Draft
+drafted y words next = record { words = words; next = next; names = y .signalNames; processes = y .processes }
+
+-- between two spots the judge met the tokens in these roles, the ledger kept what it says, and the table's words, v before and v′ after,
+-- got what is to be written where nothing is refused; so many labels are not yet opened
+pub record Judged (u u′ : ℕ) (s : List ℕ) (p q : Spot) (l l′ v v′ : List ℕ) (roles : List Role → List Role) (drafts : Draft → Draft) : Type 0 where
   pub after : Judgement → Judgement
   pub keeps : (j : Judgement) → Keeps u s l j → Keeps u′ s l′ (after j)
   pub folds : (j : Judgement) (r : List Role) → judgement s (p .at) j (roles r) ≡ judgement s (q .at) (after j) r
+  pub writes : (y y′ : State) → Keeps u s l (fine y) → after (fine y) ≡ fine y′ → drafts (drafted y v (p .next)) ≡ drafted y′ v′ (q .next)
+
+-- a spot with another address
+abbrev pub addressed : Spot → ℕ → Spot
+addressed p n = record { number = p .number; at = p .at; next = n }
 
 -- WORDS: a token of the kind, or refusal 3
 

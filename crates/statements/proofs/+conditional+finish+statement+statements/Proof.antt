@@ -7,48 +7,47 @@ use Rattle.laws.specs.Pick.{pick}
 use Rattle.words.specs.Token.{THEN, SEMICOLON}
 use Rattle.look.specs.declared.Look.{Look}
 use Rattle.look.proofs.Looks.{seen-there}
-use Rattle.reader.specs.Inside.Spots.{starter}
-use Rattle.reader.specs.Inside.Reading.{Ready, Reads, someStatements}
-use Rattle.reader.proofs.Words.{worded}
-use Rattle.reader.proofs.Generic.{reads-off, span, held, ready-token, ready-pass, ready-word, ready-reads, ready-at}
-use Rattle.reader.proofs.Statements.{ending-none, ending-no-integer, ending-low, ending-high, ending-after, statement-assignment, statement-deep, statement-if, statement-null, none-stops, statements-none, statements-more, finish-end, starter-null, reads-less, stops-at, finish-else}
+use Rattle.reading.specs.Inside.Spots.{starter}
+use Rattle.reading.specs.Inside.Reading.{Ready, Reads, someStatements}
+use Rattle.reading.proofs.Words.{worded}
+use Rattle.reading.proofs.Generic.{reads-off, span, held, ready-token, ready-pass, ready-word, ready-reads, ready-at}
+use Rattle.statements.proofs.Statements.{ending-none, ending-no-integer, ending-low, ending-high, ending-after, statement-assignment, statement-deep, statement-if, statement-null, none-stops, statements-none, statements-more, finish-end, starter-null, reads-less, stops-at, finish-else}
 use Prim.Native.Nat.{ℕ, _+_, _-_, _*_, _<_, _≤_}
 use mathlib.Core.Path.{_≡_, refl, sym, ap, _∙_}
 use mathlib.Core.Logic.{⊎-elim}
 use native.Mathlib.Omega.{arith}
 use borrow.Author.Needs.{needs}
 use lib.ListN.{length, getD}
-use Rattle.reader.specs.declared.Spot.{Spot}
-use Rattle.reader.specs.Inside.Reading.{Ready, Reads, aMore}
-use Rattle.reader.proofs.Generic.{reads-off, span, held, ready-token, ready-pass, ready-reads, ready-at}
-use Rattle.reader.proofs.Expressions.{primary-name, primary-literal, primary-none, primary-deep, primary-bracket, factor-plain, factor-not, expression-then, tail-low, tail-high, tail-once, tail-chain, chain-none, chain-more}
-use Rattle.reader.specs.Inside
-use Rattle.reader.specs.Inside.Spots.{wordFrom, wordOf}
+use Rattle.reading.specs.declared.Spot.{Spot}
+use Rattle.reading.specs.Inside.Reading.{Ready, Reads, aMore}
+use Rattle.reading.proofs.Generic.{reads-off, span, held, ready-token, ready-pass, ready-reads, ready-at}
+use Rattle.expressions.proofs.Expressions.{primary-name, primary-literal, primary-none, primary-deep, primary-bracket, factor-plain, factor-not, expression-then, tail-low, tail-high, tail-once, tail-chain, chain-none, chain-more}
+use Rattle.reading.specs.Inside.Spots.{wordFrom, wordOf}
 use borrow.Fn.PlainCycle.{Measures, is, falls, and}
 use borrow.Fn.Kinds.{In}
-use Rattle.reader.proofs.statement.conditional.Reads as conditional
-use Rattle.reader.proofs.statement.conditional.Kinds as conditional-kinds
-use Rattle.reader.proofs.statement.+conditional+finish+statement+statements.Lts-conditional as conditional-lts
-use Rattle.reader.proofs.statement.finish.Reads as finish
-use Rattle.reader.proofs.statement.finish.Kinds as finish-kinds
-use Rattle.reader.proofs.statement.+conditional+finish+statement+statements.Lts-finish as finish-lts
-use Rattle.reader.proofs.statement.statement.Reads as statement′
-use Rattle.reader.proofs.statement.statement.Kinds as statement-kinds
-use Rattle.reader.proofs.statement.+conditional+finish+statement+statements.Lts-statement as statement-lts
-use Rattle.reader.proofs.statement.statements.Reads as statements
-use Rattle.reader.proofs.statement.statements.Kinds as statements-kinds
-use Rattle.reader.proofs.statement.+conditional+finish+statement+statements.Lts-statements as statements-lts
+use Rattle.statements.proofs.conditional.Reads as conditional
+use Rattle.statements.proofs.conditional.Kinds as conditional-kinds
+use Rattle.statements.proofs.+conditional+finish+statement+statements.Lts-conditional as conditional-lts
+use Rattle.statements.proofs.finish.Reads as finish
+use Rattle.statements.proofs.finish.Kinds as finish-kinds
+use Rattle.statements.proofs.+conditional+finish+statement+statements.Lts-finish as finish-lts
+use Rattle.statements.proofs.statement.Reads as statement′
+use Rattle.statements.proofs.statement.Kinds as statement-kinds
+use Rattle.statements.proofs.+conditional+finish+statement+statements.Lts-statement as statement-lts
+use Rattle.statements.proofs.statements.Reads as statements
+use Rattle.statements.proofs.statements.Kinds as statements-kinds
+use Rattle.statements.proofs.+conditional+finish+statement+statements.Lts-statements as statements-lts
 use Rattle.ledger.proofs.count.Reads as count-reads
 use Rattle.look.proofs.peek.Reads as peek-reads
-use Rattle.reader.proofs.emission.aim.Reads as aim-reads
-use Rattle.reader.proofs.emission.emit.Reads as emit-reads
-use Rattle.reader.proofs.expression.expression.Reads as expression-reads
-use Rattle.reader.proofs.statement.assignment.Reads as assignment-reads
-use Rattle.reader.proofs.statement.end_if.Reads as end-if-reads
-use Rattle.reader.proofs.statement.starts.Reads as starts-reads
-use Rattle.reader.proofs.word.Reads as word-reads
-use Rattle.reader.proofs.statement.+conditional+finish+statement+statements.{statement}
-use Rattle.reader.proofs.statement.+conditional+finish+statement+statements.Tie.{close}
+use Rattle.emission.proofs.aim.Reads as aim-reads
+use Rattle.emission.proofs.emit.Reads as emit-reads
+use Rattle.expressions.proofs.expression.Reads as expression-reads
+use Rattle.statements.proofs.assignment.Reads as assignment-reads
+use Rattle.statements.proofs.end_if.Reads as end-if-reads
+use Rattle.statements.proofs.starts.Reads as starts-reads
+use Rattle.reading.proofs.word.Reads as word-reads
+use Rattle.statements.proofs.+conditional+finish+statement+statements.{statement}
+use Rattle.statements.proofs.+conditional+finish+statement+statements.Tie.{close}
 
 abbrev μ-conditional : Measures 3 conditional-kinds.ps ℕ
 μ-conditional κs a = 8 * (a .1 .1 .1 .1 .1 .0) + 1

@@ -6,11 +6,11 @@ use native.Mathlib.Omega.{arith}
 use borrow.Author.Needs.{needs}
 use Rattle.words.specs.Token.{ARROW, TRANSPORT}
 use Rattle.look.proofs.Looks.{seen-there}
-use Rattle.reader.proofs.Words.{worded}
-use Rattle.reader.proofs.Generic.{reads-off, span, held, ready-token, ready-pass, ready-word, ready-reads, ready-at}
-use Rattle.reader.proofs.Statements.{ending-none, ending-no-integer, ending-low, ending-high, ending-after, statement-assignment, statement-deep, statement-if, statement-null, none-stops, statements-none, statements-more, finish-end, finish-else}
-use Rattle.reader.proofs.statement.assignment.Statement.{statement}
-use Rattle.reader.proofs.statement.assignment.Tie as tie
+use Rattle.reading.proofs.Words.{worded}
+use Rattle.reading.proofs.Generic.{reads-off, span, held, ready-token, ready-pass, ready-word, ready-reads, ready-at}
+use Rattle.statements.proofs.Statements.{ending-none, ending-no-integer, ending-low, ending-high, ending-after, statement-assignment, statement-deep, statement-if, statement-null, none-stops, statements-none, statements-more, finish-end, finish-else}
+use Rattle.statements.proofs.assignment.Statement.{statement}
+use Rattle.statements.proofs.assignment.Tie as tie
 
 assign-requires : tie.Need-assign-requires
 assign-requires c κs = (c .before .before .before .pre .0 .sound (c .before .before .before .pre .1 .0), span (c .before .before .before .pre .0 .inside) (c .before .before .before .pre .1 .1) (λ z. omega (arith, c .before .before .before .pre .1 .2, z)))

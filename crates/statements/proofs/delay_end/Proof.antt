@@ -5,10 +5,10 @@ use mathlib.Core.Path.{_≡_, refl, sym, ap, _∙_}
 use native.Mathlib.Omega.{arith}
 use borrow.Author.Needs.{needs}
 use Rattle.look.proofs.Looks.{seen-there}
-use Rattle.reader.proofs.Generic.{reads-off, span, held, ready-token, ready-pass, ready-word, ready-reads, ready-at}
-use Rattle.reader.proofs.Statements.{ending-none, ending-no-integer, ending-low, ending-high, ending-after, statement-assignment, statement-deep, statement-if, statement-null, none-stops, statements-none, statements-more, finish-end, finish-else}
-use Rattle.reader.proofs.statement.delay_end.Statement.{statement}
-use Rattle.reader.proofs.statement.delay_end.Tie as tie
+use Rattle.reading.proofs.Generic.{reads-off, span, held, ready-token, ready-pass, ready-word, ready-reads, ready-at}
+use Rattle.statements.proofs.Statements.{ending-none, ending-no-integer, ending-low, ending-high, ending-after, statement-assignment, statement-deep, statement-if, statement-null, none-stops, statements-none, statements-more, finish-end, finish-else}
+use Rattle.statements.proofs.delay_end.Statement.{statement}
+use Rattle.statements.proofs.delay_end.Tie as tie
 
 returns : tie.Need-returns
 returns c = λ room. reads-off _ (c .before .before .before .pre .inside) (c .if1 .taken)

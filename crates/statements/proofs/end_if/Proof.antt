@@ -5,9 +5,9 @@ use mathlib.Core.Path.{_≡_, refl, sym, ap, _∙_}
 use native.Mathlib.Omega.{arith}
 use borrow.Author.Needs.{needs}
 use Rattle.words.specs.Token.{END, IF}
-use Rattle.reader.proofs.Words.{worded}
-use Rattle.reader.proofs.statement.end_if.Statement.{statement}
-use Rattle.reader.proofs.statement.end_if.Tie as tie
+use Rattle.reading.proofs.Words.{worded}
+use Rattle.statements.proofs.end_if.Statement.{statement}
+use Rattle.statements.proofs.end_if.Tie as tie
 
 word-requires : tie.Need-word-requires
 word-requires c κs = search needs

@@ -5,8 +5,8 @@ use mathlib.Core.Path.{_≡_, refl, sym, ap, _∙_}
 use native.Mathlib.Omega.{arith}
 use borrow.Author.Needs.{needs}
 use borrow.Author.Tests.{eq-eqb, ne-eqb}
-use Rattle.reader.proofs.statement.starts.Statement.{statement}
-use Rattle.reader.proofs.statement.starts.Tie as tie
+use Rattle.statements.proofs.starts.Statement.{statement}
+use Rattle.statements.proofs.starts.Tie as tie
 
 returns : tie.Need-returns
 returns c = rw (c .match .keys1)

@@ -6,13 +6,13 @@ use native.Mathlib.Omega.{arith}
 use borrow.Author.Needs.{needs}
 use mathlib.Core.List.{List}
 use lib.ListN.{length}
-use Rattle.reader.specs.declared.Spot.{Spot}
+use Rattle.reading.specs.declared.Spot.{Spot}
 use Rattle.words.specs.Token.{COLON, BOOLEAN}
 use Rattle.syntax.proofs.Rows.{moreSignals, signals, moreListed, processes}
 use Rattle.look.proofs.Looks.{seen-there}
-use Rattle.reader.specs.Inside.Reading.{Ready, Reads, whole, moreSignalsRoles, signalsRoles, moreListedRoles, processesEndRoles}
-use Rattle.reader.proofs.Words.{worded}
-use Rattle.reader.proofs.Generic.{reads-off, span, held, ready-token, ready-pass, ready-word, ready-reads, ready-at}
+use Rattle.reading.specs.Inside.Reading.{Ready, Reads, whole, moreSignalsRoles, signalsRoles, moreListedRoles, processesEndRoles}
+use Rattle.reading.proofs.Words.{worded}
+use Rattle.reading.proofs.Generic.{reads-off, span, held, ready-token, ready-pass, ready-word, ready-reads, ready-at}
 use Rattle.reader.proofs.Declarations.{name-read, name-unfit, named-read, named-unfit, initial-none, initial-low, initial-high, initial-given, more-typed, more-comma, signals-end, signals-more}
 use Rattle.reader.proofs.declaration.more_signals.Statement.{statement}
 use Rattle.reader.proofs.declaration.more_signals.Tie as tie

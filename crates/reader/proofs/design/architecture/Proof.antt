@@ -6,7 +6,7 @@ use native.Mathlib.Omega.{arith}
 use borrow.Author.Needs.{needs}
 use Rattle.words.specs.Token.{ARCHITECTURE, OF, IS}
 use Rattle.syntax.proofs.Rows.{architecturePart}
-use Rattle.reader.proofs.Generic.{reads-off, span, held, ready-token, ready-pass, ready-word, ready-reads, ready-at, ready-named}
+use Rattle.reading.proofs.Generic.{reads-off, span, held, ready-token, ready-pass, ready-word, ready-reads, ready-at, ready-named}
 use Rattle.reader.proofs.Designs.{look-span, finished-off, finished-end, finished-more, architecture-read, design-read}
 use Rattle.reader.proofs.design.architecture.Statement.{statement}
 use Rattle.reader.proofs.design.architecture.Tie as tie

@@ -6,7 +6,7 @@ use native.Mathlib.Omega.{arith}
 use borrow.Author.Needs.{needs}
 use Rattle.words.specs.Token.{ENTITY, IS, END}
 use Rattle.syntax.proofs.Rows.{entityPart}
-use Rattle.reader.proofs.Generic.{reads-off, span, held, ready-token, ready-pass, ready-word, ready-reads, ready-at, ready-named}
+use Rattle.reading.proofs.Generic.{reads-off, span, held, ready-token, ready-pass, ready-word, ready-reads, ready-at, ready-named}
 use Rattle.reader.proofs.Designs.{look-span, begins, finished-off, finished-end, finished-more, architecture-read, design-read}
 use Rattle.reader.proofs.design.design.Statement.{statement}
 use Rattle.reader.proofs.design.design.Tie as tie

@@ -6,7 +6,7 @@ use native.Mathlib.Omega.{arith}
 use borrow.Author.Needs.{needs}
 use Rattle.names.specs.Roles.{belongs}
 use Rattle.look.specs.Inside.Looks.{nameAt}
-use Rattle.reader.proofs.Generic.{reads-off, span, held, ready-token, ready-pass, ready-word, ready-reads, ready-at, ready-named}
+use Rattle.reading.proofs.Generic.{reads-off, span, held, ready-token, ready-pass, ready-word, ready-reads, ready-at, ready-named}
 use Rattle.reader.proofs.Declarations.{name-read, name-unfit}
 use Rattle.reader.proofs.design.of_name.Statement.{statement}
 use Rattle.reader.proofs.design.of_name.Tie as tie

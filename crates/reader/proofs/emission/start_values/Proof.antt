@@ -5,8 +5,8 @@ use mathlib.Core.Path.{_≡_, refl, sym, ap, _∙_}
 use native.Mathlib.Omega.{arith}
 use borrow.Author.Needs.{needs}
 use lib.ListN.{length}
-use Rattle.reader.proofs.emission.start_values.Statement.{statement}
-use Rattle.reader.proofs.emission.start_values.Tie as tie
+use Rattle.emission.proofs.start_values.Statement.{statement}
+use Rattle.emission.proofs.start_values.Tie as tie
 
 abbrev Inv-loop : tie.InvT-loop
 Inv-loop table₀ from to kind k₀ table k = (length table ≡ length table₀)

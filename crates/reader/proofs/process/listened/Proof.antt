@@ -5,7 +5,7 @@ use mathlib.Core.Path.{_≡_, refl, sym, ap, _∙_}
 use native.Mathlib.Omega.{arith}
 use borrow.Author.Needs.{needs}
 use Rattle.names.specs.Roles.{declares, listens}
-use Rattle.reader.proofs.Generic.{reads-off, span, held, ready-token, ready-pass, ready-word, ready-reads, ready-at}
+use Rattle.reading.proofs.Generic.{reads-off, span, held, ready-token, ready-pass, ready-word, ready-reads, ready-at}
 use Rattle.reader.proofs.Declarations.{name-read, name-unfit, named-read, named-unfit, initial-none, initial-low, initial-high, initial-given, more-typed, more-comma, signals-end, signals-more}
 use Rattle.reader.proofs.process.listened.Statement.{statement}
 use Rattle.reader.proofs.process.listened.Tie as tie

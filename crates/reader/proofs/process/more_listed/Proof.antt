@@ -6,11 +6,11 @@ use native.Mathlib.Omega.{arith}
 use borrow.Author.Needs.{needs}
 use mathlib.Core.List.{List}
 use lib.ListN.{length}
-use Rattle.reader.specs.declared.Spot.{Spot}
+use Rattle.reading.specs.declared.Spot.{Spot}
 use Rattle.syntax.proofs.Rows.{moreSignals, signals, moreListed, processes}
 use Rattle.look.proofs.Looks.{seen-there}
-use Rattle.reader.specs.Inside.Reading.{Ready, Reads, whole, moreSignalsRoles, signalsRoles, moreListedRoles, processesEndRoles}
-use Rattle.reader.proofs.Generic.{reads-off, span, held, ready-token, ready-pass, ready-word, ready-reads, ready-at}
+use Rattle.reading.specs.Inside.Reading.{Ready, Reads, whole, moreSignalsRoles, signalsRoles, moreListedRoles, processesEndRoles}
+use Rattle.reading.proofs.Generic.{reads-off, span, held, ready-token, ready-pass, ready-word, ready-reads, ready-at}
 use Rattle.reader.proofs.Processes.{listed-end, listed-comma, list-none, list-some, beginning-plain, beginning-is, closing-none, closing-some, body-read, opens-read, opens-unfit, opens-off, process-labelled, process-plain, processes-end, processes-more}
 use Rattle.reader.proofs.process.more_listed.Statement.{statement}
 use Rattle.reader.proofs.process.more_listed.Tie as tie

@@ -6,8 +6,8 @@ use native.Mathlib.Omega.{arith}
 use borrow.Author.Needs.{needs}
 use Rattle.words.specs.Token.{COLON, PROCESS}
 use Rattle.look.proofs.Looks.{seen-there}
-use Rattle.reader.proofs.Words.{worded}
-use Rattle.reader.proofs.Generic.{reads-off, span, held, ready-token, ready-pass, ready-word, ready-reads, ready-at}
+use Rattle.reading.proofs.Words.{worded}
+use Rattle.reading.proofs.Generic.{reads-off, span, held, ready-token, ready-pass, ready-word, ready-reads, ready-at}
 use Rattle.reader.proofs.Processes.{listed-end, listed-comma, list-none, list-some, beginning-plain, beginning-is, closing-none, closing-some, body-read, opens-read, opens-unfit, opens-off, ready-open, ready-opened, process-labelled, process-plain, processes-end, processes-more}
 use Rattle.reader.proofs.process.process.Statement.{statement}
 use Rattle.reader.proofs.process.process.Tie as tie
