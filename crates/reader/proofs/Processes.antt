@@ -30,7 +30,7 @@ use Rattle.reading.proofs.Moves.{off, some-moves, stuck-moves, same-moves}
 use Rattle.reading.proofs.Judging.{none-judged, then-judged, token-judged, passes-judged}
 use Rattle.reading.proofs.Words.{Only, Worded, worded, only-word}
 use Rattle.reading.proofs.Generic.{near, within-text, reads-off, reads-stuck}
-use Rattle.statements.proofs.Statements.{onto-done, only-process}
+use Rattle.statements.proofs.Returns.{onto-done, only-process}
 
 part-next : (u : Part) → next (closing u) (fixed (partWord u)) ≡ some record { push = closingName ∷ []; build = λ ws. (true, ws .0) }
 part-next entityPart = refl

@@ -19,11 +19,15 @@ use Rattle.layout.specs.TableWords.{operationWord, delayWord}
 use Rattle.laws.specs.Pick.{pick}
 use Rattle.reading.specs.Inside.Spots.{startsFrom, judgement, drafted, Judged, past, addressed}
 
-onward-onward : (j : Judgement) (f g : State → Judgement) → onward j (λ y. onward (f y) g) ≡ onward (onward j f) g
+pub onward-onward : (j : Judgement) (f g : State → Judgement) → onward j (λ y. onward (f y) g) ≡ onward (onward j f) g
 onward-onward (fine y) f g = refl
 onward-onward (refused n p) f g = refl
 
 -- WHERE NOTHING IS REFUSED
+
+pub record Fine (j : Judgement) : Type 0 where
+  pub state : State
+  pub is : j ≡ fine state
 
 abbrev tag : Judgement → ℕ
 tag (fine y) = 0
@@ -32,14 +36,14 @@ tag (refused n p) = 1
 refused-fine : {n p : ℕ} {y : State} → refused n p ≡ fine y → ⊥
 refused-fine e = let o : _≡_ {A = ℕ} 1 0 = ap tag e in omega arith
 
-fine-state : {y z : State} → fine y ≡ fine z → y ≡ z
+pub fine-state : {y z : State} → fine y ≡ fine z → y ≡ z
 fine-state {y} e = ap (λ j. stateOf j) e
   where
     stateOf : Judgement → State
     stateOf (fine z) = z
     stateOf (refused n p) = y
 
-lowest-fine : (rows : List (ℕ × Bool)) (place : ℕ) {y z : State} → lowest rows place y ≡ fine z → y ≡ z
+pub lowest-fine : (rows : List (ℕ × Bool)) (place : ℕ) {y z : State} → lowest rows place y ≡ fine z → y ≡ z
 lowest-fine [] place e = fine-state e
 lowest-fine (row ∷ rows) place {y} {z} e = go (row .1) (λ h. lowest-fine rows place h) e
   where
@@ -61,7 +65,7 @@ draftOf (delays n u) m = m
 draftOf (counts k) m = m
 draftOf passes m = m
 
-drafted-next : (role : Role) (y : State) (v : List ℕ) (n : ℕ) → draftOf role (drafted y v n) ≡ drafted (next y role) v n
+pub drafted-next : (role : Role) (y : State) (v : List ℕ) (n : ℕ) → draftOf role (drafted y v n) ≡ drafted (next y role) v n
 unfolding withName withProcess
 drafted-next (declares n) y v i = refl
 drafted-next (labels n) y v i = refl
@@ -98,36 +102,38 @@ module _ {u u′ : ℕ} {s : List ℕ} {p q : Spot} {l l′ v v′ : List ℕ} {
   unfolding judgement
   refused-stays n c = sym (judgement-end s (q .at) (a .after (refused n c))) ∙ sym (a .folds (refused n c) [])
 
+  -- where nothing is refused behind a part, nothing was before it
+  pub fine-before : (j : Judgement) {y : State} → a .after j ≡ fine y → Fine j
+  fine-before (fine y) e = record { state = y; is = refl }
+  fine-before (refused n c) e = absurd (refused-fine (sym (refused-stays n c) ∙ e))
+
   -- more was written than the tokens say
-  pub redrafted : {n : ℕ} {w : List ℕ} {o : Draft → Draft}
+  unfoldable pub redrafted : {n : ℕ} {w : List ℕ} {o : Draft → Draft}
       → ((y y′ : State) → Keeps u s l (fine y) → a .after (fine y) ≡ fine y′ → d (drafted y v (p .next)) ≡ drafted y′ v′ (q .next) → o (drafted y v (p .next)) ≡ drafted y′ w n)
       → Judged u u′ s p (addressed q n) l l′ v w f o
   redrafted h = record { after = a .after; keeps = a .keeps; folds = a .folds; writes = λ y y′ k e. h y y′ k e (a .writes y y′ k e) }
 
   -- the next instruction follows
-  pub put-judged : (i : Instruction) {n : ℕ} {w : List ℕ} → n ≡ following (q .next) → w ≡ placed v′ (q .next) (operationWord i) (delayWord i)
+  unfoldable pub put-judged : (i : Instruction) {n : ℕ} {w : List ℕ} → n ≡ following (q .next) → w ≡ placed v′ (q .next) (operationWord i) (delayWord i)
       → Judged u u′ s p (addressed q n) l l′ v w f (λ m. put i (d m))
   put-judged i e g = redrafted (λ y y′ k z h. ap (put i) h ∙ put-drafted i y′ (q .next) v′ e g)
 
 module _ {u u′ u″ : ℕ} {s : List ℕ} {p q r : Spot} {l l′ l″ v v′ v″ : List ℕ} {f g : List Role → List Role} {d o : Draft → Draft} where
-  pub then-judged : Judged u u′ s p q l l′ v v′ f d → Judged u′ u″ s q r l′ l″ v′ v″ g o → Judged u u″ s p r l l″ v v″ (λ rs. f (g rs)) (λ m. o (d m))
+  unfoldable pub then-judged : Judged u u′ s p q l l′ v v′ f d → Judged u′ u″ s q r l′ l″ v′ v″ g o → Judged u u″ s p r l l″ v v″ (λ rs. f (g rs)) (λ m. o (d m))
   then-judged a b =
       record {
         after = λ j. b .after (a .after j);
         keeps = λ j h. b .keeps (a .after j) (a .keeps j h);
         folds = λ j rs. a .folds j (g rs) ∙ b .folds (a .after j) rs;
-        writes = λ y y″ k e. go y y″ k e (a .after (fine y)) refl;
+        writes = λ y y″ k e.
+            let y′ = fine-before b (a .after (fine y)) e in
+            ap o (a .writes y (y′ .state) k (y′ .is)) ∙ b .writes (y′ .state) y″ (subst (Keeps u′ s l′) (y′ .is) (a .keeps (fine y) k)) (ap (b .after) (sym (y′ .is)) ∙ e);
       }
-    where
-      go : (y y″ : State) → Keeps u s l (fine y) → b .after (a .after (fine y)) ≡ fine y″ → (j : Judgement) → a .after (fine y) ≡ j
-          → o (d (drafted y v (p .next))) ≡ drafted y″ v″ (r .next)
-      go y y″ k e (fine y′) z = ap o (a .writes y y′ k z) ∙ b .writes y′ y″ (subst (Keeps u′ s l′) z (a .keeps (fine y) k)) (ap (b .after) (sym z) ∙ e)
-      go y y″ k e (refused n c) z = absurd (refused-fine (sym (refused-stays b n c) ∙ ap (b .after) (sym z) ∙ e))
 
 -- ONE TOKEN
 
 module _ {s : List ℕ} {p : Spot} {t : Look} (x : There s (p .at) t) {v : List ℕ} where
-  pub token-judged : (role : Role) {u u′ : ℕ} {l l′ : List ℕ} → Judges u u′ s role (t .start) l l′
+  unfoldable pub token-judged : (role : Role) {u u′ : ℕ} {l l′ : List ℕ} → Judges u u′ s role (t .start) l l′
       → Judged u u′ s p (past t (p .next)) l l′ v v (λ r. role ∷ r) (draftOf role)
   unfolding judgement judged
   token-judged role h =
@@ -140,7 +146,7 @@ module _ {s : List ℕ} {p : Spot} {t : Look} (x : There s (p .at) t) {v : List 
       }
 
   -- a token that nothing is said of
-  pub passes-judged : {u : ℕ} {l : List ℕ} → Judged u u s p (past t (p .next)) l l v v (λ r. passes ∷ r) (λ m. m)
+  unfoldable pub passes-judged : {u : ℕ} {l : List ℕ} → Judged u u s p (past t (p .next)) l l v v (λ r. passes ∷ r) (λ m. m)
   unfolding judgement judged
   passes-judged =
       record {

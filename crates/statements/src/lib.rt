@@ -1,22 +1,25 @@
 // Statements. The nesting room falls with each `if`.
-use crate::Spot;
-use crate::emission::aim;
-use crate::emission::emit;
-use crate::expression::expression;
-use crate::word;
+use emission::aim;
+use emission::emit;
+use expressions::expression;
 use ledger::assign;
 use ledger::count;
 use look::Look;
 use look::peek;
 use look::unit_of;
+use reading::Spot;
+use reading::word;
 ghost use mathlib.Core.Path.{_≡_};
-ghost use mathlib.Core.Bool.{true, false};
-ghost use Prim.Native.Nat.{ℕ, _≤_, _<_};
+ghost use mathlib.Core.Bool.{true};
+ghost use mathlib.Core.List.{List};
+ghost use Prim.Native.Nat.{ℕ, _≤_};
 ghost use lib.ListN.{length};
-ghost use Rattle.syntax.proofs.Rows.{anEnd, inAssignment, inThen};
+ghost use Rattle.syntax.proofs.Rows.{inThen};
+ghost use Rattle.emission.specs.Inside.Draft.{otherwiseDraft};
 ghost use Rattle.look.specs.Inside.Looks.{lookOf};
 ghost use Rattle.reading.specs.Inside.Spots.{Forward, endIfOf, starter, Stops};
-ghost use Rattle.reading.specs.Inside.Reading.{Ready, Reads, whole, aStatement, someStatements, closes, endingRoles, finishRoles};
+ghost use Rattle.reading.specs.Inside.Reading.{Ready, Reads, aStatement, someStatements, closes, finishRoles};
+ghost use Rattle.statements.specs.Inside.Ending.{Ends};
 
 // Where reading stands behind an assignment, and its delay.
 pub struct Ending {
@@ -27,7 +30,7 @@ pub struct Ending {
 // [`after` integer unit] `;`
 fn delay_end(text: &[u8], ledger: &mut [u64; 328], p: Spot) -> Ending
     requires { ⌜ Ready 0 (now text) p (now ledger) ⌝ }
-    ensures { λ r. ⌜ ((room : ℕ) → Reads (whole (anEnd inAssignment) endingRoles) (now (text .entry)) room p (r .spot) (now (ledger .entry)) (now (ledger .exit))) ⌝ }
+    ensures { λ r. ⌜ ((room : ℕ) (words : List ℕ) → Ends (now (text .entry)) room p (r .spot) (r .delay) (now (ledger .entry)) (now (ledger .exit)) words) ⌝ }
 {
     if p.number != 0 {
         return Ending { spot: p, delay: 0 };
@@ -85,7 +88,7 @@ fn assignment(
 ) -> Spot
     requires { ⌜ Ready 0 (now text) p (now ledger) ⌝ }
     requires { ⌜ (p .number ≡ 0) × (t ≡ lookOf (now text) (p .at)) × (t .kind ≡ 108) ⌝ }
-    ensures { λ r. ⌜ Reads aStatement (now (text .entry)) room p r (now (ledger .entry)) (now (ledger .exit)) × Forward p r ⌝ }
+    ensures { λ r. ⌜ Reads aStatement (now (text .entry)) room p r (now (ledger .entry)) (now (ledger .exit)) (now (table .entry)) (now (table .exit)) × Forward p r ⌝ }
 {
     let k = assign(text, ledger, t.start, t.end);
     let here = Spot {
@@ -131,7 +134,7 @@ fn starts(kind: usize) -> bool
 // [`else` {statement}] `end` `if` `;`
 fn finish(text: &[u8], ledger: &mut [u64; 328], table: &mut [u64], p: Spot, room: usize) -> Spot
     requires { ⌜ Ready 0 (now text) p (now ledger) × Stops (now text) p ⌝ }
-    ensures { λ r. ⌜ Reads (closes inThen finishRoles) (now (text .entry)) room p r (now (ledger .entry)) (now (ledger .exit)) ⌝ }
+    ensures { λ r. ⌜ Reads (closes inThen finishRoles otherwiseDraft) (now (text .entry)) room p r (now (ledger .entry)) (now (ledger .exit)) (now (table .entry)) (now (table .exit)) ⌝ }
 {
     if p.number != 0 {
         return p;
@@ -159,7 +162,7 @@ fn conditional(
     room: usize,
 ) -> Spot
     requires { ⌜ Ready 0 (now text) p (now ledger) × (p .number ≡ 0) × (t ≡ lookOf (now text) (p .at)) × (t .kind ≡ 11) ⌝ }
-    ensures { λ r. ⌜ Reads aStatement (now (text .entry)) room p r (now (ledger .entry)) (now (ledger .exit)) × Forward p r ⌝ }
+    ensures { λ r. ⌜ Reads aStatement (now (text .entry)) room p r (now (ledger .entry)) (now (ledger .exit)) (now (table .entry)) (now (table .exit)) × Forward p r ⌝ }
 {
     if room == 0 {
         return Spot {
@@ -205,7 +208,7 @@ fn statement(
     room: usize,
 ) -> Spot
     requires { ⌜ Ready 0 (now text) p (now ledger) × (p .number ≡ 0) × (t ≡ lookOf (now text) (p .at)) × (starter (t .kind) ≡ true) ⌝ }
-    ensures { λ r. ⌜ Reads aStatement (now (text .entry)) room p r (now (ledger .entry)) (now (ledger .exit)) × Forward p r ⌝ }
+    ensures { λ r. ⌜ Reads aStatement (now (text .entry)) room p r (now (ledger .entry)) (now (ledger .exit)) (now (table .entry)) (now (table .exit)) × Forward p r ⌝ }
 {
     if t.kind == Look::NAME {
         return assignment(text, ledger, table, p, t, room);
@@ -230,7 +233,7 @@ pub fn statements(
     room: usize,
 ) -> Spot
     requires { ⌜ Ready 0 (now text) first (now ledger) ⌝ }
-    ensures { λ r. ⌜ Reads someStatements (now (text .entry)) room first r (now (ledger .entry)) (now (ledger .exit)) × Stops (now (text .entry)) r ⌝ }
+    ensures { λ r. ⌜ Reads someStatements (now (text .entry)) room first r (now (ledger .entry)) (now (ledger .exit)) (now (table .entry)) (now (table .exit)) × Stops (now (text .entry)) r ⌝ }
 {
     let mut p = first;
     while p.number == 0 {

@@ -1,28 +1,23 @@
 -- The readers of statements meet their contracts: each return by its law. The nesting room falls along the cycle.
 -- Assumes nothing.
+use Prim.Native.Nat.{ℕ, _+_, _-_, _*_, _<_}
+use native.Mathlib.Omega.{arith}
+use mathlib.Core.Path.{_≡_, refl, sym, ap, _∙_}
 use mathlib.Core.List.{List}
 use lib.Dec.{eqb}
+use lib.ListN.{length}
+use borrow.Author.Needs.{needs}
 use borrow.Author.Tests.{not-true, not-false}
 use Rattle.laws.specs.Pick.{pick}
 use Rattle.words.specs.Token.{THEN, SEMICOLON}
 use Rattle.look.specs.declared.Look.{Look}
 use Rattle.look.proofs.Looks.{seen-there}
+use Rattle.reading.specs.declared.Spot.{Spot}
 use Rattle.reading.specs.Inside.Spots.{starter}
 use Rattle.reading.specs.Inside.Reading.{Ready, Reads, someStatements}
 use Rattle.reading.proofs.Words.{worded}
-use Rattle.reading.proofs.Generic.{reads-off, span, held, ready-token, ready-pass, ready-word, ready-reads, ready-at}
-use Rattle.statements.proofs.Statements.{ending-none, ending-no-integer, ending-low, ending-high, ending-after, statement-assignment, statement-deep, statement-if, statement-null, none-stops, statements-none, statements-more, finish-end, starter-null, reads-less, stops-at, finish-else}
-use Prim.Native.Nat.{ℕ, _+_, _-_, _*_, _<_, _≤_}
-use mathlib.Core.Path.{_≡_, refl, sym, ap, _∙_}
-use mathlib.Core.Logic.{⊎-elim}
-use native.Mathlib.Omega.{arith}
-use borrow.Author.Needs.{needs}
-use lib.ListN.{length, getD}
-use Rattle.reading.specs.declared.Spot.{Spot}
-use Rattle.reading.specs.Inside.Reading.{Ready, Reads, aMore}
-use Rattle.reading.proofs.Generic.{reads-off, span, held, ready-token, ready-pass, ready-reads, ready-at}
-use Rattle.expressions.proofs.Expressions.{primary-name, primary-literal, primary-none, primary-deep, primary-bracket, factor-plain, factor-not, expression-then, tail-low, tail-high, tail-once, tail-chain, chain-none, chain-more}
-use Rattle.reading.specs.Inside.Spots.{wordFrom, wordOf}
+use Rattle.reading.proofs.Generic.{reads-off, held, ready-token, ready-pass, ready-word, ready-reads, ready-at}
+use Rattle.statements.proofs.Returns.{statement-deep, statement-if, statement-null, none-stops, statements-none, statements-more, finish-end, finish-else, starter-null, reads-less, stops-at}
 use borrow.Fn.PlainCycle.{Measures, is, falls, and}
 use borrow.Fn.Kinds.{In}
 use Rattle.statements.proofs.conditional.Reads as conditional
@@ -148,7 +143,7 @@ conditional-returns-2 : (t : ℕ) → conditional-lts.Need-returns-2 (conditiona
 conditional-returns-2 t c =
     let x = seen-there (c .before .before .before .before .before .before .before .before .before .before .before .before .before .before .before .before .before .before .before .before .before .before .before .before .before .before .before .before .before .before .before .before .before .before .before .before .before .pre .1 .0 .inside) (c .before .before .before .before .before .before .before .before .before .before .before .before .before .before .before .before .before .before .before .before .before .before .before .before .before .before .before .before .before .before .before .before .before .before .before .before .before .pre .1 .2) (λ z. omega (arith, c .before .before .before .before .before .before .before .before .before .before .before .before .before .before .before .before .before .before .before .before .before .before .before .before .before .before .before .before .before .before .before .before .before .before .before .before .before .pre .1 .3, z)) in
     let w = worded THEN (c .before .before .before .before .before .before .before .before .before .before .before .before .before .before .before .before .before .before .before .before .before .before .before .before .before .before .before .before .before .expression .ensures .inside) (c .before .before .before .before .before .before .before .before .before .before .before .before .before .before .before .before .before .before .before .before .before .before .before .before .before .before .word .ensures) in (
-      statement-if (c .before .before .before .before .before .before .before .before .before .before .before .before .before .before .before .before .before .before .before .before .before .before .before .before .before .before .before .before .before .before .before .before .before .before .before .before .before .pre .1 .0 .inside) (c .before .before .before .before .before .before .before .before .before .before .before .before .before .before .before .before .before .before .before .before .before .before .before .before .before .before .before .before .before .before .before .before .before .before .before .before .before .pre .1 .1) (c .before .before .before .before .before .before .before .before .before .before .before .before .before .before .before .before .before .before .before .before .before .before .before .before .before .before .before .before .before .before .before .before .before .before .before .before .before .pre .1 .2) (c .before .before .before .before .before .before .before .before .before .before .before .before .before .before .before .before .before .before .before .before .before .before .before .before .before .before .before .before .before .before .before .before .before .before .before .before .before .pre .1 .3) (c .before .before .before .before .before .before .before .before .before .before .before .before .before .before .before .before .before .before .before .before .before .before .before .before .before .before .before .before .before .before .before .before .before .before .if1 .left) (c .before .before .before .before .before .before .before .before .before .before .before .before .before .before .before .before .before .before .before .before .before .before .before .before .before .before .before .before .before .before .before .before .count .ensures (c .before .before .before .before .before .before .before .before .before .before .before .before .before .before .before .before .before .before .before .before .before .before .before .before .before .before .before .before .before .before .before .before .before .before .before .before .before .args .text .now)) (c .before .before .before .before .before .before .before .before .before .before .before .before .before .before .before .before .before .before .before .before .before .before .before .before .before .before .before .before .before .expression .ensures) (c .before .before .before .before .before .before .before .before .before .before .before .before .before .before .before .before .before .before .before .before .before .before .before .before .before .before .word .ensures) (c .before .before .before .before .before .before .before .before .before .before .before .before .before .before .before .before .before .before .before .statements .ensures .0) (c .before .before .before .before .before .before .before .before .before .before .finish .ensures),
+      statement-if (c .before .before .before .before .before .before .before .before .before .before .before .before .before .before .before .before .before .before .before .before .before .before .before .before .before .before .before .before .before .before .before .before .before .before .before .before .before .pre .1 .0 .inside) (c .before .before .before .before .before .before .before .before .before .before .before .before .before .before .before .before .before .before .before .before .before .before .before .before .before .before .before .before .before .before .before .before .before .before .before .before .before .pre .1 .1) (c .before .before .before .before .before .before .before .before .before .before .before .before .before .before .before .before .before .before .before .before .before .before .before .before .before .before .before .before .before .before .before .before .before .before .before .before .before .pre .1 .2) (c .before .before .before .before .before .before .before .before .before .before .before .before .before .before .before .before .before .before .before .before .before .before .before .before .before .before .before .before .before .before .before .before .before .before .before .before .before .pre .1 .3) (c .before .before .before .before .before .before .before .before .before .before .before .before .before .before .before .before .before .before .before .before .before .before .before .before .before .before .before .before .before .before .before .before .before .before .if1 .left) (c .before .before .before .before .before .before .before .before .before .before .before .before .before .before .before .before .before .before .before .before .before .before .before .before .before .before .before .before .before .before .before .before .count .ensures (c .before .before .before .before .before .before .before .before .before .before .before .before .before .before .before .before .before .before .before .before .before .before .before .before .before .before .before .before .before .before .before .before .before .before .before .before .before .args .text .now)) (c .before .before .before .before .before .before .before .before .before .before .before .before .before .before .before .before .before .before .before .before .before .before .before .before .before .before .before .before .before .expression .ensures) (c .before .before .before .before .before .before .before .before .before .before .before .before .before .before .before .before .before .before .before .before .before .before .before .before .before .before .word .ensures) (c .before .before .before .before .before .before .before .before .before .before .before .before .before .before .before .before .before .before .before .before .before .before .before .before .emit .ensures .0) (c .before .before .before .before .before .before .before .before .before .before .before .before .before .before .before .before .before .before .before .before .before .before .before .before .emit .ensures .1) (c .before .before .before .before .before .before .before .before .before .before .before .before .before .before .before .before .before .before .before .statements .ensures .0) (c .before .before .before .before .before .before .before .before .before .before .before .before .before .before .before .emit2 .ensures .0) (c .before .before .before .before .before .before .before .before .before .before .before .before .before .before .before .emit2 .ensures .1) (c .before .before .before .before .before .before .before .before .before .before .finish .ensures) (c .before .before .before .before .before .before .aim .ensures) (c .before .before .aim2 .ensures),
       record { more = λ z. omega (arith, x .after, x .some, c .before .before .before .before .before .before .before .before .before .before .before .before .before .before .before .before .before .before .before .before .before .before .before .before .before .before .before .before .before .expression .ensures .ahead, w .ahead, c .before .before .before .before .before .before .before .before .before .before .before .before .before .before .before .before .before .before .before .statements .ensures .0 .ahead, c .before .before .before .before .before .before .before .before .before .before .finish .ensures .ahead) },
     )
 
@@ -204,16 +199,16 @@ statement-returns-3 t c =
     let k : c .before .before .before .before .before .before .before .args .t .kind ≡ 14 = starter-null (c .before .before .before .before .before .before .before .args .t .kind) (c .before .before .before .before .before .before .before .pre .1 .3) (c .before .before .before .if1 .left) (c .before .if2 .left) in
     let x = seen-there (c .before .before .before .before .before .before .before .pre .1 .0 .inside) (c .before .before .before .before .before .before .before .pre .1 .2) (λ z. omega (arith, k, z)) in
     let w = worded SEMICOLON (x .inside) (c .word .ensures) in
-    (statement-null (c .before .before .before .before .before .before .before .pre .1 .0 .inside) (c .before .before .before .before .before .before .before .pre .1 .1) (c .before .before .before .before .before .before .before .pre .1 .2) _ k (c .word .ensures), record { more = λ z. omega (arith, x .after, x .some, w .ahead) })
+    (statement-null (c .before .before .before .before .before .before .before .pre .1 .0 .inside) (c .before .before .before .before .before .before .before .pre .1 .1) (c .before .before .before .before .before .before .before .pre .1 .2) k (c .word .ensures), record { more = λ z. omega (arith, x .after, x .some, w .ahead) })
 
 abbrev statements-Inv-loop : statements-lts.InvT-loop
-statements-Inv-loop text ledger₀ table₀ room p₀ ledger table p = Ready 0 text p ledger × ((q : Spot) (l : List ℕ) → Reads someStatements text room p q ledger l → Reads someStatements text room p₀ q ledger₀ l) × (length table ≡ length table₀)
+statements-Inv-loop text ledger₀ table₀ room p₀ ledger table p = Ready 0 text p ledger × ((q : Spot) (l v : List ℕ) → Reads someStatements text room p q ledger l table v → Reads someStatements text room p₀ q ledger₀ l table₀ v) × (length table ≡ length table₀)
 
 abbrev statements-μ-loop : statements-lts.MeasureT-loop
 statements-μ-loop text ledger₀ table₀ room p₀ ledger table p = length text - p .at + pick (eqb (p .number) 0) 1 0
 
 statements-loop-holds : (t : ℕ) → statements-lts.Need-loop-holds (statements-in t) (statements-at t) statements.Post statements-Inv-loop statements-μ-loop
-statements-loop-holds t c = (c .before .before .pre .1, (λ q l d. d), refl)
+statements-loop-holds t c = (c .before .before .pre .1, (λ q l v d. d), refl)
 
 statements-peek-requires : (t : ℕ) → statements-lts.Need-peek-requires (statements-in t) (statements-at t) statements.Post statements-Inv-loop statements-μ-loop
 statements-peek-requires t c κs = c .before .before .loop .inv .0 .inside
@@ -226,7 +221,7 @@ statements-same-length t c = search needs
 
 statements-returns : (t : ℕ) → statements-lts.Need-returns (statements-in t) (statements-at t) statements.Post statements-Inv-loop statements-μ-loop
 statements-returns t c = (
-  c .before .before .before .before .before .loop .inv .1 _ _ (statements-none (c .before .before .before .before .before .loop .inv .0 .inside)),
+  c .before .before .before .before .before .loop .inv .1 _ _ _ (statements-none (c .before .before .before .before .before .loop .inv .0 .inside)),
   record { none = λ z. ap (λ (u : Look). starter (u .kind)) (sym (c .before .before .peek .ensures)) ∙ sym (c .before .starts .ensures) ∙ not-true _ (c .if2 .taken) },
 )
 
@@ -239,7 +234,7 @@ statements-loop-less t c = reads-less (c .before .before .before .before .before
 statements-loop-again : (t : ℕ) → statements-lts.Need-loop-again (statements-in t) (statements-at t) statements.Post statements-Inv-loop statements-μ-loop
 statements-loop-again t c = (
   ready-reads (c .before .before .before .before .before .before .before .before .before .before .loop .inv .0) (c .before .before .statement .ensures .0),
-  (λ q l d. c .before .before .before .before .before .before .before .before .before .before .loop .inv .1 q l (statements-more (c .before .before .statement .ensures .0) d)),
+  (λ q l v d. c .before .before .before .before .before .before .before .before .before .before .loop .inv .1 q l v (statements-more (c .before .before .statement .ensures .0) d)),
   search needs,
 )
 
@@ -247,7 +242,7 @@ statements-same-length-2 : (t : ℕ) → statements-lts.Need-same-length-2 (stat
 statements-same-length-2 t c = search needs
 
 statements-returns-2 : (t : ℕ) → statements-lts.Need-returns-2 (statements-in t) (statements-at t) statements.Post statements-Inv-loop statements-μ-loop
-statements-returns-2 t c = (c .before .before .loop .inv .1 _ _ (statements-none (c .before .before .loop .inv .0 .inside)), none-stops _ _ (c .if1 .left))
+statements-returns-2 t c = (c .before .before .loop .inv .1 _ _ _ (statements-none (c .before .before .loop .inv .0 .inside)), none-stops _ _ (c .if1 .left))
 
 pub +conditional+finish+statement+statements-spec : {M : Type 1} → statement M
 +conditional+finish+statement+statements-spec =

@@ -1,14 +1,13 @@
--- `reader::statement::assignment` meets its contract.
+-- `statements::assignment` meets its contract.
 -- Assumes nothing.
-use Prim.Native.Nat.{ℕ, _+_, _-_, _*_, _<_, _≤_}
-use mathlib.Core.Path.{_≡_, refl, sym, ap, _∙_}
+use mathlib.Core.List.{[]}
 use native.Mathlib.Omega.{arith}
 use borrow.Author.Needs.{needs}
 use Rattle.words.specs.Token.{ARROW, TRANSPORT}
 use Rattle.look.proofs.Looks.{seen-there}
 use Rattle.reading.proofs.Words.{worded}
-use Rattle.reading.proofs.Generic.{reads-off, span, held, ready-token, ready-pass, ready-word, ready-reads, ready-at}
-use Rattle.statements.proofs.Statements.{ending-none, ending-no-integer, ending-low, ending-high, ending-after, statement-assignment, statement-deep, statement-if, statement-null, none-stops, statements-none, statements-more, finish-end, finish-else}
+use Rattle.reading.proofs.Generic.{span, ready-token, ready-word, ready-reads}
+use Rattle.statements.proofs.Returns.{statement-assignment}
 use Rattle.statements.proofs.assignment.Statement.{statement}
 use Rattle.statements.proofs.assignment.Tie as tie
 
@@ -44,8 +43,8 @@ returns c =
     let x = seen-there (c .before .before .before .before .before .before .before .before .before .before .before .before .before .before .before .before .before .before .pre .0 .inside) (c .before .before .before .before .before .before .before .before .before .before .before .before .before .before .before .before .before .before .pre .1 .1) (λ z. omega (arith, c .before .before .before .before .before .before .before .before .before .before .before .before .before .before .before .before .before .before .pre .1 .2, z)) in
     let w1 = worded ARROW (x .inside) (c .before .before .before .before .before .before .before .before .before .before .before .before .before .word .ensures) in
     let w2 = worded TRANSPORT (w1 .inside) (c .before .before .before .before .before .before .before .before .before .before .before .before .word2 .ensures) in (
-      statement-assignment (c .before .before .before .before .before .before .before .before .before .before .before .before .before .before .before .before .before .before .pre .0 .inside) (c .before .before .before .before .before .before .before .before .before .before .before .before .before .before .before .before .before .before .pre .1 .0) (c .before .before .before .before .before .before .before .before .before .before .before .before .before .before .before .before .before .before .pre .1 .1) _ (c .before .before .before .before .before .before .before .before .before .before .before .before .before .before .before .before .before .before .pre .1 .2) (c .before .before .before .before .before .before .before .before .before .before .before .before .before .before .assign .ensures .0) (c .before .before .before .before .before .before .before .before .before .before .before .before .before .word .ensures) (c .before .before .before .before .before .before .before .before .before .before .before .before .word2 .ensures) (c .before .before .before .before .before .before .before .before .before .expression .ensures) (c .before .before .before .before .before .delay-end .ensures (c .before .before .before .before .before .before .before .before .before .before .before .before .before .before .before .before .before .before .args .room)),
-      record { more = λ z. omega (arith, x .after, x .some, w1 .ahead, w2 .ahead, c .before .before .before .before .before .before .before .before .before .expression .ensures .ahead, c .before .before .before .before .before .delay-end .ensures (c .before .before .before .before .before .before .before .before .before .before .before .before .before .before .before .before .before .before .args .room) .ahead) },
+      statement-assignment (c .before .before .before .before .before .before .before .before .before .before .before .before .before .before .before .before .before .before .pre .0 .inside) (c .before .before .before .before .before .before .before .before .before .before .before .before .before .before .before .before .before .before .pre .1 .0) (c .before .before .before .before .before .before .before .before .before .before .before .before .before .before .before .before .before .before .pre .1 .1) (c .before .before .before .before .before .before .before .before .before .before .before .before .before .before .before .before .before .before .pre .1 .2) (c .before .before .before .before .before .before .before .before .before .before .before .before .before .before .assign .ensures .0) (c .before .before .before .before .before .before .before .before .before .before .before .before .before .before .assign .ensures .1) (c .before .before .before .before .before .before .before .before .before .before .before .before .before .word .ensures) (c .before .before .before .before .before .before .before .before .before .before .before .before .word2 .ensures) (c .before .before .before .before .before .before .before .before .before .expression .ensures) (c .before .before .before .before .before .delay-end .ensures (c .before .before .before .before .before .before .before .before .before .before .before .before .before .before .before .before .before .before .args .room) _) (c .before .before .emit .ensures .0) (c .before .before .emit .ensures .1),
+      record { more = λ z. omega (arith, x .after, x .some, w1 .ahead, w2 .ahead, c .before .before .before .before .before .before .before .before .before .expression .ensures .ahead, c .before .before .before .before .before .delay-end .ensures (c .before .before .before .before .before .before .before .before .before .before .before .before .before .before .before .before .before .before .args .room) [] .reads .ahead) },
     )
 
 pub assignment-spec : {M : Type 1} → statement M

@@ -1,8 +1,5 @@
--- `reader::statement::end_if` meets its contract.
+-- `statements::end_if` meets its contract.
 -- Assumes nothing.
-use Prim.Native.Nat.{ℕ, _+_, _-_, _*_, _<_, _≤_}
-use mathlib.Core.Path.{_≡_, refl, sym, ap, _∙_}
-use native.Mathlib.Omega.{arith}
 use borrow.Author.Needs.{needs}
 use Rattle.words.specs.Token.{END, IF}
 use Rattle.reading.proofs.Words.{worded}

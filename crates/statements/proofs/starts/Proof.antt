@@ -1,10 +1,6 @@
--- `reader::statement::starts` meets its contract: kind by kind.
+-- `statements::starts` meets its contract: kind by kind.
 -- Assumes nothing.
-use Prim.Native.Nat.{ℕ, _+_, _-_, _*_, _<_, _≤_}
-use mathlib.Core.Path.{_≡_, refl, sym, ap, _∙_}
-use native.Mathlib.Omega.{arith}
-use borrow.Author.Needs.{needs}
-use borrow.Author.Tests.{eq-eqb, ne-eqb}
+use borrow.Author.Tests.{ne-eqb}
 use Rattle.statements.proofs.starts.Statement.{statement}
 use Rattle.statements.proofs.starts.Tie as tie
 

@@ -14,7 +14,7 @@ use Rattle.look.proofs.Looks.{seen-there}
 use Rattle.reading.specs.Inside.Reading.{Ready, Reads, whole, moreSignalsRoles, signalsRoles, moreListedRoles, processesEndRoles}
 use Rattle.reading.proofs.Generic.{reads-off, span, held, ready-token, ready-pass, ready-word, ready-reads, ready-at}
 use Rattle.reader.proofs.Processes.{listed-end, listed-comma, list-none, list-some, beginning-plain, beginning-is, closing-none, closing-some, body-read, opens-read, opens-unfit, opens-off, process-labelled, process-plain, processes-end, processes-more}
-use Rattle.statements.proofs.Statements.{reads-less}
+use Rattle.statements.proofs.Returns.{reads-less}
 use Rattle.reader.proofs.process.process_list.Statement.{statement}
 use Rattle.reader.proofs.process.process_list.Tie as tie
 

@@ -1,0 +1,2 @@
+-- Laws of the readers of statements.
+pub mod Returns
