@@ -161,7 +161,7 @@ pub counts-instructions : (d : Design) → Fits d → nest d ≤ mostOpen → af
 counts-instructions d f n = fits-judged d f n .counted
 
 -- a signal has a name and a starting value
-as-many-values : (b : Bool) (ns : List Name) → length (eachValue b ns) ≡ length ns
+pub as-many-values : (b : Bool) (ns : List Name) → length (eachValue b ns) ≡ length ns
 as-many-values b [] = refl
 as-many-values b (n ∷ ns) = ap suc (as-many-values b ns)
 

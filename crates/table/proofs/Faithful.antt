@@ -27,7 +27,7 @@ formula-front (negated e) is js = formula-front e (negation ∷ is) js
 formula-front (combined o a b) is js =
     ap (formulaCode a) (formula-front b (binary o ∷ is) js) ∙ formula-front a (formulaCode b (binary o ∷ is)) js
 
-front : (ss : Actions) (x : ℕ) (is js : List Instruction) → code x ss (is ++ js) ≡ code x ss is ++ js
+pub front : (ss : Actions) (x : ℕ) (is js : List Instruction) → code x ss (is ++ js) ≡ code x ss is ++ js
 unfolding code
 front done x is js = refl
 front (assign k e d ss) x is js = simp (← formula-front, ← front ss)
@@ -104,7 +104,7 @@ part-at c p h =
     rw (n, b) (cut-whole c p h)
 
 -- a signal wakes it in the table where it stands in the list
-unlisted : (n : ℕ) (l : List ℕ) (k : ℕ) → Listed n l → n ≤ k → member l k ≡ false
+pub unlisted : (n : ℕ) (l : List ℕ) (k : ℕ) → Listed n l → n ≤ k → member l k ≡ false
 unfolding Listed member
 unlisted n [] k h g = refl
 unlisted n (i ∷ l) k h g = rw (ne-eqb i k (λ e. omega arith)) (unlisted n l k (h .1) g)

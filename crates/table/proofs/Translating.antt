@@ -92,7 +92,7 @@ module _ (vs : Values) (now : ℕ) where
   meaning ss x p n = runs ss n [] [] p refl refl refl
 
 -- the code has as many instructions as are counted over the statements
-length-formula : (e : Formula) (is : List Instruction) → length (formulaCode e is) ≡ size e + length is
+pub length-formula : (e : Formula) (is : List Instruction) → length (formulaCode e is) ≡ size e + length is
 unfolding formulaCode size
 length-formula (signal k) is = omega arith
 length-formula (constant b) is = omega arith
