@@ -1,14 +1,10 @@
 /* How long reading a text of 60,000 bytes takes, and how much stack: the least and the middle time of many calls. */
-#include <stdint.h>
 #include <stdio.h>
-#include <stdlib.h>
-#include <string.h>
-#include <time.h>
-#include <ucontext.h>
 
 #include "compassnail.h"
+#include "../measure.h"
 
-enum { LONGEST = 60000, ROUNDS = 201, STACK = 1 << 20, PAINT = 0xa5 };
+enum { LONGEST = 60000, ROUNDS = 201 };
 
 static uint8_t text[LONGEST + 1000], out[COMPASSNAIL_OUT_BYTES];
 static size_t length;
@@ -103,46 +99,14 @@ static void write_header(void)
     answer = compassnail_header(text, length, out, COMPASSNAIL_OUT_BYTES);
 }
 
-static double now(void)
-{
-    struct timespec t;
-    clock_gettime(CLOCK_MONOTONIC, &t);
-    return t.tv_sec * 1e3 + t.tv_nsec / 1e6;
-}
-
-static int rising(const void *a, const void *b)
-{
-    double x = *(const double *)a, y = *(const double *)b;
-    return (x > y) - (x < y);
-}
-
-/* The call runs on a painted stack of its own; what it left painted is counted. */
-static size_t stack_of(void (*call)(void))
-{
-    static ucontext_t here, there;
-    uint8_t *stack = malloc(STACK);
-    size_t left = 0;
-    memset(stack, PAINT, STACK);
-    getcontext(&there);
-    there.uc_stack.ss_sp = stack;
-    there.uc_stack.ss_size = STACK;
-    there.uc_link = &here;
-    makecontext(&there, call, 0);
-    swapcontext(&here, &there);
-    while (left < STACK && stack[left] == PAINT)
-        left++;
-    free(stack);
-    return STACK - left;
-}
-
 static void measure(const char *name, void (*make)(void), void (*call)(void))
 {
     static double times[ROUNDS];
     make();
     for (int r = 0; r < ROUNDS; r++) {
-        double from = now();
+        double from = nanoseconds();
         call();
-        times[r] = now() - from;
+        times[r] = (nanoseconds() - from) / 1e6;
     }
     qsort(times, ROUNDS, sizeof *times, rising);
     printf("%-24s %8.3f %8.3f ms, %6zu bytes of stack, %zu bytes read, answer %llu, %llu instructions\n", name, times[0], times[ROUNDS / 2], stack_of(call), length,
