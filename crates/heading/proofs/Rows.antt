@@ -21,8 +21,8 @@ use Rattle.rules.specs.Sizes.{bufferBytes}
 use Rattle.demands.specs.Shown.{designHeader}
 use Rattle.demands.proofs.Header.{accepted-header-fits}
 use Rattle.look.specs.declared.Look.{Look}
-use Rattle.reader.specs.declared.Spot.{Spot}
-use Rattle.reader.specs.Inside.Spots.{wordOf}
+use Rattle.reading.specs.declared.Spot.{Spot}
+use Rattle.reading.specs.Inside.Spots.{wordOf}
 use Rattle.reader.specs.Inside.Designs.{beginning, Survey, Surveyed, acceptedAs, refusedAs}
 use Rattle.reader.specs.declared.design.Checked.{Checked}
 use Rattle.reader.specs.declared.design.Checked.the-variants.{Accepted, Refused}

@@ -22,13 +22,14 @@ use Rattle.names.proofs.Answer.{answerTo, gets}
 use Rattle.names.proofs.Verdict.{afterAll}
 use Rattle.names.proofs.Tokens.{as-many}
 use Rattle.names.proofs.Sizes.{fits-judged}
+use Rattle.emission.specs.Inside.Draft.{designDraft, nothing}
 use Rattle.ledger.specs.Inside.Standing.{Keeps, keepsFine}
 use Rattle.ledger.proofs.Keeping.{kept-fine, kept-refused}
 use Rattle.reading.specs.declared.Spot.{Spot}
 use Rattle.reader.specs.declared.design.Checked.{Checked}
 use Rattle.reader.specs.declared.design.Checked.the-variants.{Accepted, Refused}
 use Rattle.reader.specs.Answers.{Answers}
-use Rattle.reading.specs.Inside.Spots.{tokensFrom, startsFrom, placedVerdict, machine, denied, verdict, judgement}
+use Rattle.reading.specs.Inside.Spots.{tokensFrom, startsFrom, placedVerdict, machine, denied, verdict, judgement, drafted}
 use Rattle.reader.specs.Inside.Designs.{designOf, beginning, Designed, Surveyed, acceptedAs, refusedAs}
 
 onward-fine : (j : Judgement) → onward j (λ y. fine y) ≡ j
@@ -79,7 +80,7 @@ module _ (s : List ℕ) (scanned : Scanned s) where
   unfolding verdict machine read tokensOf
   from-start = refl
 
-  module _ {q : Spot} {l l′ : List ℕ} (d : Designed s q l l′) where
+  module _ {q : Spot} {l l′ v v′ : List ℕ} (d : Designed s q l l′ v v′) where
     refuses-3 : (v : Verdict Design) (p : ℕ) → read (tokens s) ≡ v → placedVerdict (length s) (starts s) v ≡ refused3 p → answerTo s ≡ refuses 3 p
     unfolding answerTo
     refuses-3 (accepted x) p r h = let z : _≡_ {A = ℕ} 0 1 = ap tagOf h in absurd (omega arith)
@@ -105,7 +106,7 @@ module _ (s : List ℕ) (scanned : Scanned s) where
         refusedAs (subst (Gets s) (refuses-3 (read (tokens s)) (q .at) refl h) (gets s))
 
     module _ (f : q .number ≡ 0) where
-      abbrev tree : Design
+      abbrev pub tree : Design
       tree = designOf (d .entity) (d .word) (d .closed) (d .behind)
 
       pub read-accepts : read (tokens s) ≡ accepted tree
@@ -134,9 +135,16 @@ module _ (s : List ℕ) (scanned : Scanned s) where
             let j = kept-fine keeps-all g in
             rw (le-ltb mostBytes (length s) (scanned .short), scanned .lexical, read-accepts, j .1)
 
+        pub gets-tree : getD l′ 0 0 ≡ 0 → Gets s (accepts tree)
+        gets-tree g = subst (Gets s) (accepts-tree g) (gets s)
+
+        -- what is written of the table
+        pub words-written : (g : getD l′ 0 0 ≡ 0) → designDraft tree (nothing v) ≡ drafted (kept-fine keeps-all g .0 .state) v′ (q .next)
+        words-written g = let j = kept-fine keeps-all g in d .judges f .writes start (j .0 .state) k (judged-all ∙ j .1)
+
         pub answer-accepted : getD l′ 0 0 ≡ 0 → Surveyed s Accepted l′
         answer-accepted g =
-            let got = subst (Gets s) (accepts-tree g) (gets s) in
+            let got = gets-tree g in
             let j = kept-fine keeps-all g in
             acceptedAs record {
               tree = tree;

@@ -14,7 +14,7 @@ use Rattle.reader.specs.declared.design.Checked.the-variants.{Accepted, 
 use Rattle.reader.specs.Answers.{Answers}
 
 module _ (text : List ℕ) where
-  never-both : {d : Design} {number place : ℕ} → Gets text (accepts d) → Gets text (refuses number place) → ⊥
+  pub never-both : {d : Design} {number place : ℕ} → Gets text (accepts d) → Gets text (refuses number place) → ⊥
   never-both g h = let e = one-answer text _ _ g h in let z : _≡_ {A = ℕ} 0 1 = cc in omega arith
 
   -- NO SECOND OUTCOME FITS

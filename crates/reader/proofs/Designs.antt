@@ -19,11 +19,12 @@ use Rattle.names.specs.Roles.{Role, passes}
 use Rattle.look.specs.declared.Look.{Look}
 use Rattle.look.specs.Inside.Looks.{nameAt, lookOf}
 use Rattle.look.proofs.Looks.{There, Gone, View, there, gone, seen, seen-there, seen-gone}
+use Rattle.emission.specs.Inside.Draft.{declarationsDraft, processesDraft}
 use Rattle.ledger.specs.Inside.Standing.{Sound, Span, nameOption}
 use Rattle.reading.specs.declared.Spot.{Spot}
 use Rattle.reading.specs.Inside.Spots.{tokensFrom, machine, verdict, Judged, past, unfit, wordOf}
-use Rattle.reading.specs.Inside.Reading.{What, whole, given, theName, Named, belongsRoles, signalsRoles, processesEndRoles, closingPartRoles, Ready, Reads}
-use Rattle.reader.specs.Inside.Designs.{Finished, behindEntity, Architecture, valuesOf, architectureRoles, Behind, beginning, wholeRoles, designOf, Designed}
+use Rattle.reading.specs.Inside.Reading.{What, whole, given, theName, Named, belongsRoles, signalsRoles, processesEndRoles, closingPartRoles, silent, Ready, Reads}
+use Rattle.reader.specs.Inside.Designs.{Finished, behindEntity, Architecture, valuesOf, architectureRoles, architectureDraft, Behind, beginning, wholeRoles, designOf, Designed}
 use Rattle.reading.proofs.Moves.{on, off}
 use Rattle.reading.proofs.Judging.{none-judged, then-judged}
 use Rattle.reading.proofs.Words.{worded, only-word}
@@ -62,19 +63,20 @@ module _ {s : List ℕ} {p : Spot} {t : Look} (h : p .at ≤ length s) (f : p .n
 own-name : (s : List ℕ) (at : ℕ) {t : Look} → t ≡ lookOf s at → lookOf s at .start < lookOf s at .end → nameOption s (t .start) (t .end) ≡ some (theName s at)
 own-name s at e h = rw (e, lt-ltb (lookOf s at .start) (lookOf s at .end) h)
 
-pub architecture-read : {s : List ℕ} {n : Name} {own : Look} {p a b c d e f g h q : Spot} {l l1 l2 l3 l4 : List ℕ}
-    → p .at ≤ length s → a ≡ wordOf s p 3 → own ≡ lookOf s (a .at) → Named s a b l → c ≡ wordOf s b 4 → Reads (whole aName (belongsRoles n)) s 32 c d l l1 → e ≡ wordOf s d 1
-    → Reads (whole signals signalsRoles) s 32 e f l1 l2 → Reads (whole processes processesEndRoles) s 32 f g l2 l3
-    → Reads (whole (closing architecturePart) (closingPartRoles (nameOption s (own .start) (own .end)))) s 32 g h l3 l4 → Finished s h q
-    → Behind s n p q l l4
-architecture-read {s} {n} {own} {p} {a} {b} {c} {d} {e} {f} {g} {h} {q} {l} {l1} {l2} {l3} {l4} i e1 eo nm e2 r1 e3 r2 r3 r4 fin =
+pub architecture-read : {s : List ℕ} {n : Name} {own : Look} {p a b c d e f g h q : Spot} {l l1 l2 l3 l4 v v1 v2 : List ℕ}
+    → p .at ≤ length s → a ≡ wordOf s p 3 → own ≡ lookOf s (a .at) → Named s a b l v → c ≡ wordOf s b 4 → Reads (whole aName (belongsRoles n) silent) s 32 c d l l1 v v
+    → e ≡ wordOf s d 1 → Reads (whole signals signalsRoles declarationsDraft) s 32 e f l1 l2 v v1 → Reads (whole processes processesEndRoles processesDraft) s 32 f g l2 l3 v1 v2
+    → Reads (whole (closing architecturePart) (closingPartRoles (nameOption s (own .start) (own .end))) silent) s 32 g h l3 l4 v2 v2 → Finished s h q
+    → Behind s n p q l l4 v v2
+architecture-read {s} {n} {own} {p} {a} {b} {c} {d} {e} {f} {g} {h} {q} {l} {l1} {l2} {l3} {l4} {v} {v1} {v2} i e1 eo nm e2 r1 e3 r2 r3 r4 fin =
     let w1 = worded ARCHITECTURE i e1 in
     let r0 = nm .reads in
     let w2 = worded OF (r0 .inside) e2 in
     let w3 = worded IS (r1 .inside) e3 in
+    let built : Architecture = record { name = theName s (a .at); of = r1 .tree; declared = r2 .tree; processes = r3 .tree; word = r4 .tree .0; closed = r4 .tree .1 } in
     let back : q .number ≡ 0 → b .number ≡ 0 = λ z. w2 .fine (r1 .fine (w3 .fine (r2 .fine (r3 .fine (r4 .fine (fin .fine z)))))) in
     record {
-      tree = record { name = theName s (a .at); of = r1 .tree; declared = r2 .tree; processes = r3 .tree; word = r4 .tree .0; closed = r4 .tree .1 };
+      tree = built;
       fine = λ z. w1 .fine (r0 .fine (back z));
       moves = λ k. w1 .moves (theWord ARCHITECTURE) record { push = []; build = λ _. tt } refl (only-word s p ARCHITECTURE) (aName ∷ theWord OF ∷ aName ∷ theWord IS ∷ signals ∷ processes ∷ closing architecturePart ∷ []) k (omega arith)
           ∙ r0 .moves tt (theWord OF ∷ aName ∷ theWord IS ∷ signals ∷ processes ∷ closing architecturePart ∷ []) _ refl
@@ -93,11 +95,11 @@ architecture-read {s} {n} {own} {p} {a} {b} {c} {d} {e} {f} {g} {h} {q} {l} {l1}
           let fd = w3 .fine fe in
           let fc = r1 .fine fd in
           let fb = w2 .fine fc in
-          let closed : Judged 0 0 s g h l3 l4 (closingPartRoles (some (theName s (a .at))) (r4 .tree))
-          = subst (λ (o : Option Name). Judged 0 0 s g h l3 l4 (closingPartRoles o (r4 .tree))) (own-name s (a .at) eo (nm .some fb)) (r4 .judges fh) in
+          let closed : Judged 0 0 s g h l3 l4 v2 v2 (closingPartRoles (some (theName s (a .at))) (r4 .tree)) (λ m. m)
+          = subst (λ (o : Option Name). Judged 0 0 s g h l3 l4 v2 v2 (closingPartRoles o (r4 .tree)) (λ m. m)) (own-name s (a .at) eo (nm .some fb)) (r4 .judges fh) in
           let all = then-judged (w1 .judges (r0 .fine fb)) (then-judged (r0 .judges fb) (then-judged (w2 .judges fc) (then-judged (r1 .judges fd) (then-judged (w3 .judges fe)
           (then-judged (r2 .judges ff) (then-judged (r3 .judges fg) closed)))))) in
-          subst (λ (x : Spot). Judged 0 0 s p x l l4 (architectureRoles n record { name = theName s (a .at); of = r1 .tree; declared = r2 .tree; processes = r3 .tree; word = r4 .tree .0; closed = r4 .tree .1 })) (fin .judges z) all;
+          subst (λ (x : Spot). Judged 0 0 s p x l l4 v v2 (architectureRoles n built) (architectureDraft built)) (fin .judges z) all;
       ends = fin .ends;
     }
 
@@ -106,16 +108,16 @@ architecture-read {s} {n} {own} {p} {a} {b} {c} {d} {e} {f} {g} {h} {q} {l} {l1}
 pub begins : {s l : List ℕ} → Sound 0 s l → Ready 0 s beginning l
 begins d = record { inside = omega arith; sound = λ _. d }
 
-pub design-read : {s : List ℕ} {own : Look} {a b c d e q : Spot} {l l1 l2 : List ℕ}
-    → a ≡ wordOf s beginning 0 → own ≡ lookOf s (a .at) → Named s a b l → c ≡ wordOf s b 1 → d ≡ wordOf s c 2
-    → Reads (whole (closing entityPart) (closingPartRoles (nameOption s (own .start) (own .end)))) s 32 d e l l1
-    → Behind s (nameAt s (own .start) (own .end)) e q l1 l2 → Designed s q l l2
-design-read {s} {own} {a} {b} {c} {d} {e} {q} {l} {l1} {l2} e1 eo nm e2 e3 r1 o0 =
+pub design-read : {s : List ℕ} {own : Look} {a b c d e q : Spot} {l l1 l2 v v′ : List ℕ}
+    → a ≡ wordOf s beginning 0 → own ≡ lookOf s (a .at) → Named s a b l v → c ≡ wordOf s b 1 → d ≡ wordOf s c 2
+    → Reads (whole (closing entityPart) (closingPartRoles (nameOption s (own .start) (own .end))) silent) s 32 d e l l1 v v
+    → Behind s (nameAt s (own .start) (own .end)) e q l1 l2 v v′ → Designed s q l l2 v v′
+design-read {s} {own} {a} {b} {c} {d} {e} {q} {l} {l1} {l2} {v} {v′} e1 eo nm e2 e3 r1 o0 =
     let w1 = worded ENTITY {p = beginning} (omega arith) e1 in
     let r0 = nm .reads in
     let w2 = worded IS (r0 .inside) e2 in
     let w3 = worded END (w2 .inside) e3 in
-    let o : Behind s (theName s (a .at)) e q l1 l2 = subst (λ (t : Look). Behind s (nameAt s (t .start) (t .end)) e q l1 l2) eo o0 in
+    let o : Behind s (theName s (a .at)) e q l1 l2 v v′ = subst (λ (t : Look). Behind s (nameAt s (t .start) (t .end)) e q l1 l2 v v′) eo o0 in
     record {
       entity = theName s (a .at);
       word = r1 .tree .0;
@@ -138,8 +140,8 @@ design-read {s} {own} {a} {b} {c} {d} {e} {q} {l} {l1} {l2} e1 eo nm e2 e3 r1 o0
           let fd = r1 .fine fe in
           let fc = w3 .fine fd in
           let fb = w2 .fine fc in
-          let closed : Judged 0 0 s d e l l1 (closingPartRoles (some (theName s (a .at))) (r1 .tree))
-          = subst (λ (o : Option Name). Judged 0 0 s d e l l1 (closingPartRoles o (r1 .tree))) (own-name s (a .at) eo (nm .some fb)) (r1 .judges fe) in
+          let closed : Judged 0 0 s d e l l1 v v (closingPartRoles (some (theName s (a .at))) (r1 .tree)) (λ m. m)
+          = subst (λ (o : Option Name). Judged 0 0 s d e l l1 v v (closingPartRoles o (r1 .tree)) (λ m. m)) (own-name s (a .at) eo (nm .some fb)) (r1 .judges fe) in
           then-judged (w1 .judges (r0 .fine fb)) (then-judged (r0 .judges fb) (then-judged (w2 .judges fc) (then-judged (w3 .judges fd) (then-judged closed (o .judges z)))));
       ends = o .ends;
     }

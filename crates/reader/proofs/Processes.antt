@@ -7,7 +7,7 @@ use mathlib.Core.Bool.{Bool, true, false, _||_}
 use mathlib.Core.Option.{Option, none, some}
 use mathlib.Core.List.{List, [], _∷_, _++_}
 use lib.Dec.{eqb, ltb}
-use lib.ListN.{length}
+use lib.ListN.{length, getD}
 use borrow.Author.Tests.{eq-eqb, ne-eqb, lt-ltb}
 use Rattle.laws.specs.Pick.{pick}
 use Rattle.words.specs.Token.{Name, IS, BEGIN, END, PROCESS, OPEN, CLOSE, COLON, COMMA, SEMICOLON, ENTITY, ARCHITECTURE, name, fixed}
@@ -21,25 +21,60 @@ use Rattle.look.specs.declared.Look.{Look}
 use Rattle.look.specs.Inside.Looks.{part, nameAt, lookOf, tokenOfKind, tokenOfLook}
 use Rattle.look.proofs.Looks.{There, View, there, gone, seen, seen-there}
 use Rattle.look.proofs.Numbers.{fixedKind, takenBy, misfit, name-seen, fixed-seen}
-use Rattle.ledger.specs.Inside.Standing.{Judges, nameOption}
+use Rattle.names.specs.Judge.{State, fine, numberOf}
+use Rattle.emission.specs.Inside.Draft.{Draft, waking, ended, withListener, withEnd, processesDraft}
+use Rattle.ledger.specs.Inside.Standing.{Keeps, keepsFine, Judges, Numbers, nameOption}
 use Rattle.ledger.proofs.Keeping.{unlabelled}
 use Rattle.reading.specs.declared.Spot.{Spot}
-use Rattle.reading.specs.Inside.Spots.{verdict, Judged, past, unfit, wordOf, Stops, Forward}
-use Rattle.reading.specs.Inside.Reading.{What, whole, aList, aProcess, someStatements, listensRoles, moreListedRoles, beginningRoles, closingNameRoles, bodyRoles, processesEndRoles, closingPartRoles, Opens, Ready, Reads}
+use Rattle.reading.specs.Inside.Spots.{verdict, drafted, Judged, past, unfit, wordOf, Stops, Forward}
+use Rattle.reading.specs.Inside.Reading.{What, whole, aList, aProcess, someStatements, listensRoles, moreListedRoles, beginningRoles, closingNameRoles, bodyRoles, processesEndRoles, closingPartRoles, silent, moreListedDraft, bodyDraft, Opens, Ready, Reads}
 use Rattle.reading.proofs.Moves.{off, some-moves, stuck-moves, same-moves}
-use Rattle.reading.proofs.Judging.{none-judged, then-judged, token-judged, passes-judged}
+use Rattle.reading.proofs.Judging.{none-judged, then-judged, redrafted, token-judged, passes-judged}
 use Rattle.reading.proofs.Words.{Only, Worded, worded, only-word}
 use Rattle.reading.proofs.Generic.{near, within-text, reads-off, reads-stuck}
 use Rattle.statements.proofs.Returns.{onto-done, only-process}
+use Rattle.reader.proofs.Declarations.{kept-after}
 
 part-next : (u : Part) → next (closing u) (fixed (partWord u)) ≡ some record { push = closingName ∷ []; build = λ ws. (true, ws .0) }
 part-next entityPart = refl
 part-next architecturePart = refl
 
+-- how many processes there are by the words that keep a state
+counted-processes : {u : ℕ} {s l : List ℕ} {y : State} → Keeps u s l (fine y) → getD l 4 0 ≡ y .processes
+counted-processes (keepsFine x) = x .processesAre
+
+-- a signal wakes the last process, and the last process ends, in the draft's words
+listener-drafted : (n : Name) (y : State) (v : List ℕ) (i : ℕ) {k j : ℕ} {w : List ℕ} → k ≡ numberOf n (y .signalNames) → j ≡ y .processes → w ≡ waking v k j
+    → withListener n (drafted y v i) ≡ drafted y w i
+unfolding withListener
+listener-drafted n y v i e g o = rw (o, e, g)
+
+end-drafted : (y : State) (v : List ℕ) (i : ℕ) {j : ℕ} {w : List ℕ} → j ≡ y .processes → w ≡ ended v j i → withEnd (drafted y v i) ≡ drafted y w i
+unfolding withEnd
+end-drafted y v i g o = rw (o, g)
+
 module _ {s : List ℕ} {p : Spot} {t : Look} (h : p .at ≤ length s) (f : p .number ≡ 0) (e : t ≡ lookOf s (p .at)) where
+  -- a name in a list
+
+  pub listened-read : {k : ℕ} {l l′ v v′ : List ℕ} → t .kind ≡ 108 → Judges 0 0 s (listens (nameAt s (t .start) (t .end))) (t .start) l l′
+      → Numbers s l (nameAt s (t .start) (t .end)) k → v′ ≡ waking v k (getD l′ 4 0) → Reads (whole aName listensRoles withListener) s 32 p (past t (p .next)) l l′ v v′
+  listened-read {k} {l} {l′} {v} {v′} g j numbers o =
+      let x = seen-there h e (λ z. omega arith) in
+      let n = nameAt s (t .start) (t .end) in
+      let token = token-judged {p = p} x {v = v} (listens n) j in
+      record {
+        tree = n;
+        fine = λ _. f;
+        ahead = omega (arith, x .after, x .some);
+        inside = x .inside;
+        moves = λ c ss m u. some-moves s p f (p .next) aName x record { push = []; build = λ _. n } (ap (next aName) (name-seen s t g)) ss m (omega arith);
+        judges = λ _. redrafted token (λ y y′ c i w. ap (withListener n) w
+            ∙ listener-drafted n y′ v (p .next) (numbers .numberIs y c ∙ ap (λ (m : Draft). numberOf n (m .names)) w) (counted-processes (kept-after token c i)) o);
+      }
+
   -- {`,` name} `)`
 
-  pub listed-end : {q : Spot} {l : List ℕ} → (t .kind ≡ 112 → ⊥) → q ≡ wordOf s p 111 → Reads (whole moreListed moreListedRoles) s 32 p q l l
+  pub listed-end : {q : Spot} {l v : List ℕ} → (t .kind ≡ 112 → ⊥) → q ≡ wordOf s p 111 → Reads (whole moreListed moreListedRoles moreListedDraft) s 32 p q l l v v
   listed-end k e1 =
       let w = worded CLOSE h e1 in
       record {
@@ -52,23 +87,23 @@ module _ {s : List ℕ} {p : Spot} {t : Look} (h : p .at ≤ length s) (f : p .n
         judges = λ z. w .judges z;
       }
 
-  pub listed-comma : {n : ℕ} {q r : Spot} {l l1 l2 : List ℕ} → t .kind ≡ 112 → Reads (whole aName listensRoles) s 32 (past t n) q l l1
-      → Reads (whole moreListed moreListedRoles) s 32 q r l1 l2 → Reads (whole moreListed moreListedRoles) s 32 p r l l2
-  listed-comma {n} k d o =
+  pub listed-comma : {q r : Spot} {l l1 l2 v v1 v2 : List ℕ} → t .kind ≡ 112 → Reads (whole aName listensRoles withListener) s 32 (past t (p .next)) q l l1 v v1
+      → Reads (whole moreListed moreListedRoles moreListedDraft) s 32 q r l1 l2 v1 v2 → Reads (whole moreListed moreListedRoles moreListedDraft) s 32 p r l l2 v v2
+  listed-comma k d o =
       let x = seen-there h e (λ z. omega arith) in
       record {
         tree = d .tree ∷ o .tree;
         fine = λ _. f;
         ahead = omega (arith, x .after, x .some, d .ahead, o .ahead);
         inside = o .inside;
-        moves = λ c ss m u. some-moves s p f n moreListed x record { push = aName ∷ moreListed ∷ []; build = λ ws. ws .0 ∷ ws .1 .0 } (ap (next moreListed) (fixed-seen s t COMMA k)) ss m (omega arith)
+        moves = λ c ss m u. some-moves s p f (p .next) moreListed x record { push = aName ∷ moreListed ∷ []; build = λ ws. ws .0 ∷ ws .1 .0 } (ap (next moreListed) (fixed-seen s t COMMA k)) ss m (omega arith)
             ∙ d .moves tt (moreListed ∷ ss) _ (omega arith) ∙ o .moves tt ss _ (omega arith);
-        judges = λ z. then-judged (passes-judged x n) (then-judged (d .judges (o .fine z)) (o .judges z));
+        judges = λ z. then-judged (passes-judged x) (then-judged (d .judges (o .fine z)) (o .judges z));
       }
 
   -- [`(` name {`,` name} `)`]
 
-  pub list-none : {l : List ℕ} → (t .kind ≡ 110 → ⊥) → Reads aList s 32 p p l l
+  pub list-none : {l v : List ℕ} → (t .kind ≡ 110 → ⊥) → Reads aList s 32 p p l l v v
   list-none k =
       record {
         tree = unlisted;
@@ -80,25 +115,25 @@ module _ {s : List ℕ} {p : Spot} {t : Look} (h : p .at ≤ length s) (f : p .n
         judges = λ z. none-judged;
       }
 
-  pub list-some : {n : ℕ} {q r : Spot} {l l1 l2 : List ℕ} → t .kind ≡ 110 → Reads (whole aName listensRoles) s 32 (past t n) q l l1
-      → Reads (whole moreListed moreListedRoles) s 32 q r l1 l2 → Reads aList s 32 p r l l2
-  list-some {n} k d o =
+  pub list-some : {q r : Spot} {l l1 l2 v v1 v2 : List ℕ} → t .kind ≡ 110 → Reads (whole aName listensRoles withListener) s 32 (past t (p .next)) q l l1 v v1
+      → Reads (whole moreListed moreListedRoles moreListedDraft) s 32 q r l1 l2 v1 v2 → Reads aList s 32 p r l l2 v v2
+  list-some k d o =
       let x = seen-there h e (λ z. omega arith) in
       record {
         tree = listed (d .tree) (o .tree);
         fine = λ _. f;
         ahead = omega (arith, x .after, x .some, d .ahead, o .ahead);
         inside = o .inside;
-        moves = λ c ss m u. some-moves s p f n processBody x
+        moves = λ c ss m u. some-moves s p f (p .next) processBody x
             record { push = aName ∷ moreListed ∷ beginning ∷ statements inProcess ∷ []; build = λ ws. (listed (ws .0) (ws .1 .0), (ws .1 .1 .0, ws .1 .1 .1 .0)) }
             (ap (next processBody) (fixed-seen s t OPEN k)) ss m (omega arith)
             ∙ d .moves tt (moreListed ∷ beginning ∷ statements inProcess ∷ ss) _ (omega arith) ∙ o .moves tt (beginning ∷ statements inProcess ∷ ss) _ (omega arith);
-        judges = λ z. then-judged (passes-judged x n) (then-judged (d .judges (o .fine z)) (o .judges z));
+        judges = λ z. then-judged (passes-judged x) (then-judged (d .judges (o .fine z)) (o .judges z));
       }
 
   -- [`is`] `begin`
 
-  pub beginning-plain : {q : Spot} {l : List ℕ} → (t .kind ≡ 1 → ⊥) → q ≡ wordOf s p 6 → Reads (whole beginning beginningRoles) s 32 p q l l
+  pub beginning-plain : {q : Spot} {l v : List ℕ} → (t .kind ≡ 1 → ⊥) → q ≡ wordOf s p 6 → Reads (whole beginning beginningRoles silent) s 32 p q l l v v
   beginning-plain k e1 =
       let w = worded BEGIN h e1 in
       record {
@@ -111,8 +146,8 @@ module _ {s : List ℕ} {p : Spot} {t : Look} (h : p .at ≤ length s) (f : p .n
         judges = λ z. w .judges z;
       }
 
-  pub beginning-is : (n : ℕ) {q : Spot} {l : List ℕ} → t .kind ≡ 1 → q ≡ wordOf s (past t n) 6 → Reads (whole beginning beginningRoles) s 32 p q l l
-  beginning-is n k e1 =
+  pub beginning-is : {q : Spot} {l v : List ℕ} → t .kind ≡ 1 → q ≡ wordOf s (past t (p .next)) 6 → Reads (whole beginning beginningRoles silent) s 32 p q l l v v
+  beginning-is k e1 =
       let x = seen-there h e (λ z. omega arith) in
       let w = worded BEGIN (x .inside) e1 in
       record {
@@ -120,14 +155,14 @@ module _ {s : List ℕ} {p : Spot} {t : Look} (h : p .at ≤ length s) (f : p .n
         fine = λ _. f;
         ahead = omega (arith, x .after, x .some, w .ahead);
         inside = w .inside;
-        moves = λ c ss m u. some-moves s p f n beginning x record { push = theWord BEGIN ∷ []; build = λ _. true } (ap (next beginning) (fixed-seen s t IS k)) ss m (omega arith)
-            ∙ w .moves (theWord BEGIN) record { push = []; build = λ _. tt } refl (only-word s (past t n) BEGIN) ss _ (omega arith);
-        judges = λ z. then-judged (passes-judged x n) (w .judges z);
+        moves = λ c ss m u. some-moves s p f (p .next) beginning x record { push = theWord BEGIN ∷ []; build = λ _. true } (ap (next beginning) (fixed-seen s t IS k)) ss m (omega arith)
+            ∙ w .moves (theWord BEGIN) record { push = []; build = λ _. tt } refl (only-word s (past t (p .next)) BEGIN) ss _ (omega arith);
+        judges = λ z. then-judged (passes-judged x) (w .judges z);
       }
 
   -- [name] `;`
 
-  pub closing-none : {q : Spot} {l : List ℕ} {o : Option Name} → (t .kind ≡ 108 → ⊥) → q ≡ wordOf s p 114 → Reads (whole closingName (closingNameRoles o)) s 32 p q l l
+  pub closing-none : {q : Spot} {l v : List ℕ} {o : Option Name} → (t .kind ≡ 108 → ⊥) → q ≡ wordOf s p 114 → Reads (whole closingName (closingNameRoles o) silent) s 32 p q l l v v
   closing-none k e1 =
       let w = worded SEMICOLON h e1 in
       record {
@@ -140,9 +175,9 @@ module _ {s : List ℕ} {p : Spot} {t : Look} (h : p .at ≤ length s) (f : p .n
         judges = λ z. w .judges z;
       }
 
-  pub closing-some : (n : ℕ) {q : Spot} {l l′ : List ℕ} {o : Option Name} → t .kind ≡ 108 → Judges 0 0 s (closes o (nameAt s (t .start) (t .end))) (t .start) l l′
-      → q ≡ wordOf s (past t n) 114 → Reads (whole closingName (closingNameRoles o)) s 32 p q l l′
-  closing-some n {o = o} k j e1 =
+  pub closing-some : {q : Spot} {l l′ v : List ℕ} {o : Option Name} → t .kind ≡ 108 → Judges 0 0 s (closes o (nameAt s (t .start) (t .end))) (t .start) l l′
+      → q ≡ wordOf s (past t (p .next)) 114 → Reads (whole closingName (closingNameRoles o) silent) s 32 p q l l′ v v
+  closing-some {o = o} k j e1 =
       let x = seen-there h e (λ z. omega arith) in
       let w = worded SEMICOLON (x .inside) e1 in
       record {
@@ -150,15 +185,15 @@ module _ {s : List ℕ} {p : Spot} {t : Look} (h : p .at ≤ length s) (f : p .n
         fine = λ _. f;
         ahead = omega (arith, x .after, x .some, w .ahead);
         inside = w .inside;
-        moves = λ c ss m u. some-moves s p f n closingName x record { push = theWord SEMICOLON ∷ []; build = λ _. some (nameAt s (t .start) (t .end)) } (ap (next closingName) (name-seen s t k)) ss m (omega arith)
-            ∙ w .moves (theWord SEMICOLON) record { push = []; build = λ _. tt } refl (only-word s (past t n) SEMICOLON) ss _ (omega arith);
-        judges = λ z. then-judged (token-judged x n (closes o (nameAt s (t .start) (t .end))) j) (w .judges z);
+        moves = λ c ss m u. some-moves s p f (p .next) closingName x record { push = theWord SEMICOLON ∷ []; build = λ _. some (nameAt s (t .start) (t .end)) } (ap (next closingName) (name-seen s t k)) ss m (omega arith)
+            ∙ w .moves (theWord SEMICOLON) record { push = []; build = λ _. tt } refl (only-word s (past t (p .next)) SEMICOLON) ss _ (omega arith);
+        judges = λ z. then-judged (token-judged x (closes o (nameAt s (t .start) (t .end))) j) (w .judges z);
       }
 
   -- [`entity` or `architecture`] [name] `;`
 
-  pub part-plain : (u : Part) {q : Spot} {l l′ : List ℕ} {o : Option Name} → (t .kind ≡ fixedKind (partWord u) → ⊥) → Reads (whole closingName (closingNameRoles o)) s 32 p q l l′
-      → Reads (whole (closing u) (closingPartRoles o)) s 32 p q l l′
+  pub part-plain : (u : Part) {q : Spot} {l l′ v v′ : List ℕ} {o : Option Name} → (t .kind ≡ fixedKind (partWord u) → ⊥)
+      → Reads (whole closingName (closingNameRoles o) silent) s 32 p q l l′ v v′ → Reads (whole (closing u) (closingPartRoles o) silent) s 32 p q l l′ v v′
   part-plain u k d =
       record {
         tree = (false, d .tree);
@@ -171,26 +206,27 @@ module _ {s : List ℕ} {p : Spot} {t : Look} (h : p .at ≤ length s) (f : p .n
         judges = d .judges;
       }
 
-  pub part-word : (u : Part) {n : ℕ} {q : Spot} {l l′ : List ℕ} {o : Option Name} → t .kind ≡ fixedKind (partWord u) → (t .kind ≡ 117 → ⊥)
-      → Reads (whole closingName (closingNameRoles o)) s 32 (past t n) q l l′ → Reads (whole (closing u) (closingPartRoles o)) s 32 p q l l′
-  part-word u {n} k g d =
+  pub part-word : (u : Part) {q : Spot} {l l′ v v′ : List ℕ} {o : Option Name} → t .kind ≡ fixedKind (partWord u) → (t .kind ≡ 117 → ⊥)
+      → Reads (whole closingName (closingNameRoles o) silent) s 32 (past t (p .next)) q l l′ v v′ → Reads (whole (closing u) (closingPartRoles o) silent) s 32 p q l l′ v v′
+  part-word u k g d =
       let x = seen-there h e g in
       record {
         tree = (true, d .tree);
         fine = λ _. f;
         ahead = omega (arith, x .after, x .some, d .ahead);
         inside = d .inside;
-        moves = λ c ss m i. some-moves s p f n (closing u) x record { push = closingName ∷ []; build = λ ws. (true, ws .0) } (ap (next (closing u)) (fixed-seen s t (partWord u) k) ∙ part-next u) ss m (omega arith)
+        moves = λ c ss m i. some-moves s p f (p .next) (closing u) x record { push = closingName ∷ []; build = λ ws. (true, ws .0) } (ap (next (closing u)) (fixed-seen s t (partWord u) k) ∙ part-next u) ss m (omega arith)
             ∙ d .moves tt ss _ (omega arith);
-        judges = λ z. then-judged (passes-judged x n) (d .judges z);
+        judges = λ z. then-judged (passes-judged x) (d .judges z);
       }
 
 -- WHAT FOLLOWS THE WORD `process`
 
-pub body-read : {s : List ℕ} {p a b c d e q : Spot} {l l1 l2 l3 : List ℕ} {o : Option Name} → Reads aList s 32 p a l l1 → Reads (whole beginning beginningRoles) s 32 a b l1 l1
-    → Reads someStatements s 32 b c l1 l2 → Stops s c → d ≡ wordOf s c 2 → e ≡ wordOf s d 8 → Reads (whole closingName (closingNameRoles o)) s 32 e q l2 l3
-    → Reads (whole processBody (bodyRoles o)) s 32 p q l l3
-body-read {s} {p} {a} {b} {c} {d} {e} {q} r1 r2 r3 stops e1 e2 r4 =
+pub body-read : {s : List ℕ} {p a b c d e q : Spot} {l l1 l2 l3 v v1 v2 v3 : List ℕ} {o : Option Name} → Reads aList s 32 p a l l1 v v1
+    → Reads (whole beginning beginningRoles silent) s 32 a b l1 l1 v1 v1 → Reads someStatements s 32 b c l1 l2 v1 v2 → Stops s c → v3 ≡ ended v2 (getD l2 4 0) (c .next)
+    → d ≡ wordOf s c 2 → e ≡ wordOf s d 8 → Reads (whole closingName (closingNameRoles o) silent) s 32 e q l2 l3 v3 v3
+    → Reads (whole processBody (bodyRoles o) bodyDraft) s 32 p q l l3 v v3
+body-read {s} {p} {a} {b} {c} {d} {e} {q} {v2 = v2} r1 r2 r3 stops ends e1 e2 r4 =
     let w1 = worded END (r3 .inside) e1 in
     let w2 = worded PROCESS (w1 .inside) e2 in
     record {
@@ -209,30 +245,32 @@ body-read {s} {p} {a} {b} {c} {d} {e} {q} r1 r2 r3 stops e1 e2 r4 =
           let fc = w1 .fine fd in
           let fb = r3 .fine fc in
           let fa = r2 .fine fb in
-          then-judged (r1 .judges fa) (then-judged (r2 .judges fb) (then-judged (r3 .judges fc) (then-judged (w1 .judges fd) (then-judged (w2 .judges fe) (r4 .judges z)))));
+          let inner = then-judged (r1 .judges fa) (then-judged (r2 .judges fb) (r3 .judges fc)) in
+          then-judged (redrafted inner {n = c .next} (λ y y′ k g i. ap withEnd i ∙ end-drafted y′ v2 (c .next) (counted-processes (kept-after inner k g)) ends))
+          (then-judged (w1 .judges fd) (then-judged (w2 .judges fe) (r4 .judges z)));
     }
 
 -- THE WORD `process`
 
 module _ {s : List ℕ} {p : Spot} {t : Look} (h : p .at ≤ length s) (f : p .number ≡ 0) (e : t ≡ lookOf s (p .at)) where
-  pub opens-read : {l l′ : List ℕ} → t .kind ≡ 8 → Judges 1 0 s opens (t .start) l l′ → Opens s p (past t (p .next)) l l′
+  pub opens-read : {l l′ v : List ℕ} → t .kind ≡ 8 → Judges 1 0 s opens (t .start) l l′ → Opens s p (past t (p .next)) l l′ v
   unfolding wordOf
   opens-read k j =
       let x = seen-there h e (λ z. omega arith) in
-      record { worded = rw (eq-eqb (p .number) 0 f, ← e, eq-eqb (t .kind) 8 k); judged = λ _. token-judged x (p .next) opens j }
+      record { worded = rw (eq-eqb (p .number) 0 f, ← e, eq-eqb (t .kind) 8 k); judged = λ _. token-judged x opens j }
 
-  pub opens-unfit : {l l′ : List ℕ} → (t .kind ≡ 8 → ⊥) → Opens s p (unfit t (p .next)) l l′
+  pub opens-unfit : {l l′ v : List ℕ} → (t .kind ≡ 8 → ⊥) → Opens s p (unfit t (p .next)) l l′ v
   unfolding wordOf
   opens-unfit k = record { worded = rw (eq-eqb (p .number) 0 f, ← e, ne-eqb (t .kind) 8 k); judged = λ z. absurd (omega (arith, z)) }
 
-pub opens-off : {s : List ℕ} {p : Spot} {l l′ : List ℕ} → (p .number ≡ 0 → ⊥) → Opens s p p l l′
+pub opens-off : {s : List ℕ} {p : Spot} {l l′ v : List ℕ} → (p .number ≡ 0 → ⊥) → Opens s p p l l′ v
 unfolding wordOf
 opens-off {p = p} f = record { worded = rw (ne-eqb (p .number) 0 f); judged = λ z. absurd (f z) }
 
 pub ready-open : {s : List ℕ} {p : Spot} {l : List ℕ} → Ready 0 s p l → Ready 1 s p l
 ready-open r = record { inside = r .inside; sound = λ f. let d = r .sound f in record { judgement = d .judgement; keeps = unlabelled (d .keeps) } }
 
-pub ready-opened : {s : List ℕ} {p q : Spot} {l l′ : List ℕ} → Ready 1 s p l → Opens s p q l l′ → Ready 0 s q l′
+pub ready-opened : {s : List ℕ} {p q : Spot} {l l′ v : List ℕ} → Ready 1 s p l → Opens s p q l l′ v → Ready 0 s q l′
 ready-opened r o =
     let w = worded PROCESS (r .inside) (o .worded) in
     record { inside = w .inside; sound = λ f. let d = r .sound (w .fine f) in record { judgement = _; keeps = o .judged f .keeps (d .judgement) (d .keeps) } }
@@ -240,35 +278,36 @@ ready-opened r o =
 -- A PROCESS
 
 module _ {s : List ℕ} {p : Spot} {t : Look} (h : p .at ≤ length s) (f : p .number ≡ 0) (e : t ≡ lookOf s (p .at)) where
-  pub process-labelled : (n : ℕ) {a b q : Spot} {l l1 l2 l3 : List ℕ} → t .kind ≡ 108 → Judges 0 1 s (labels (nameAt s (t .start) (t .end))) (t .start) l l1
-      → a ≡ wordOf s (past t n) 113 → Opens s a b l1 l2 → Reads (whole processBody (bodyRoles (nameOption s (t .start) (t .end)))) s 32 b q l2 l3
-      → Reads aProcess s 32 p q l l3
-  process-labelled n {a} {b} {q} {l} {l1} {l2} {l3} k j e1 o d0 =
+  pub process-labelled : {a b q : Spot} {l l1 l2 l3 v v′ : List ℕ} → t .kind ≡ 108 → Judges 0 1 s (labels (nameAt s (t .start) (t .end))) (t .start) l l1
+      → a ≡ wordOf s (past t (p .next)) 113 → Opens s a b l1 l2 v → Reads (whole processBody (bodyRoles (nameOption s (t .start) (t .end))) bodyDraft) s 32 b q l2 l3 v v′
+      → Reads aProcess s 32 p q l l3 v v′
+  process-labelled {a} {b} {q} {l} {l1} {l2} {l3} {v} {v′} k j e1 o d0 =
       let x = seen-there h e (λ z. omega arith) in
       let w1 = worded COLON (x .inside) e1 in
       let w2 = worded PROCESS (w1 .inside) (o .worded) in
       let given : nameOption s (t .start) (t .end) ≡ some (nameAt s (t .start) (t .end)) = rw (lt-ltb (t .start) (t .end) (x .some)) in
-      let d : Reads (whole processBody (bodyRoles (some (nameAt s (t .start) (t .end))))) s 32 b q l2 l3 = subst (λ (v : Option Name). Reads (whole processBody (bodyRoles v)) s 32 b q l2 l3) given d0 in
+      let d : Reads (whole processBody (bodyRoles (some (nameAt s (t .start) (t .end)))) bodyDraft) s 32 b q l2 l3 v v′
+      = subst (λ (i : Option Name). Reads (whole processBody (bodyRoles i) bodyDraft) s 32 b q l2 l3 v v′) given d0 in
       record {
         tree = labelled (some (nameAt s (t .start) (t .end))) (d .tree);
         fine = λ _. f;
         ahead = omega (arith, x .after, x .some, w1 .ahead, w2 .ahead, d .ahead);
         inside = d .inside;
-        moves = λ _ ss m u. some-moves s p f n processes x
+        moves = λ _ ss m u. some-moves s p f (p .next) processes x
             record { push = theWord COLON ∷ theWord PROCESS ∷ processBody ∷ processes ∷ []; build = λ ws. labelled (some (nameAt s (t .start) (t .end))) (ws .1 .1 .0) ∷ ws .1 .1 .1 .0 }
             (ap (next processes) (name-seen s t k)) ss m (omega arith)
-            ∙ w1 .moves (theWord COLON) record { push = []; build = λ _. tt } refl (only-word s (past t n) COLON) (theWord PROCESS ∷ processBody ∷ processes ∷ ss) _ (omega arith)
+            ∙ w1 .moves (theWord COLON) record { push = []; build = λ _. tt } refl (only-word s (past t (p .next)) COLON) (theWord PROCESS ∷ processBody ∷ processes ∷ ss) _ (omega arith)
             ∙ w2 .moves (theWord PROCESS) record { push = []; build = λ _. tt } refl (only-word s a PROCESS) (processBody ∷ processes ∷ ss) _ (omega arith)
             ∙ d .moves tt (processes ∷ ss) _ (omega arith);
         judges = λ z.
             let fb = d .fine z in
             let fa = w2 .fine fb in
-            then-judged (token-judged x n (labels (nameAt s (t .start) (t .end))) j) (then-judged (w1 .judges fa) (then-judged (o .judged fb) (d .judges z)));
+            then-judged (token-judged x (labels (nameAt s (t .start) (t .end))) j) (then-judged (w1 .judges fa) (then-judged (o .judged fb) (d .judges z)));
       }
 
-  pub process-plain : {b q : Spot} {l l1 l2 : List ℕ} → (t .kind ≡ 108 → ⊥) → (t .kind ≡ 2 → ⊥) → Opens s p b l l1
-      → Reads (whole processBody (bodyRoles (nameOption s 0 0))) s 32 b q l1 l2 → Reads aProcess s 32 p q l l2
-  process-plain {b} {q} {l} {l1} {l2} k g o d =
+  pub process-plain : {b q : Spot} {l l1 l2 v v′ : List ℕ} → (t .kind ≡ 108 → ⊥) → (t .kind ≡ 2 → ⊥) → Opens s p b l l1 v
+      → Reads (whole processBody (bodyRoles (nameOption s 0 0)) bodyDraft) s 32 b q l1 l2 v v′ → Reads aProcess s 32 p q l l2 v v′
+  process-plain k g o d =
       let w = worded PROCESS h (o .worded) in
       record {
         tree = labelled none (d .tree);
@@ -280,25 +319,25 @@ module _ {s : List ℕ} {p : Spot} {t : Look} (h : p .at ≤ length s) (f : p .n
             ∙ d .moves tt (processes ∷ ss) _ (omega arith);
         judges = λ z.
             let i = o .judged (d .fine z) in
-            then-judged (record { after = i .after; keeps = λ j c. i .keeps j (unlabelled c); folds = i .folds }) (d .judges z);
+            then-judged (record { after = i .after; keeps = λ j c. i .keeps j (unlabelled c); folds = i .folds; writes = λ y y′ c. i .writes y y′ (unlabelled c) }) (d .judges z);
       }
 
   -- {process} `end`
 
-  pub processes-end : {l : List ℕ} (n : ℕ) → t .kind ≡ 2 → Reads (whole processes processesEndRoles) s 32 p (past t n) l l
-  processes-end n k =
+  pub processes-end : {l v : List ℕ} → t .kind ≡ 2 → Reads (whole processes processesEndRoles processesDraft) s 32 p (past t (p .next)) l l v v
+  processes-end k =
       let x = seen-there h e (λ z. omega arith) in
       record {
         tree = [];
         fine = λ _. f;
         ahead = omega (arith, x .after, x .some);
         inside = x .inside;
-        moves = λ c ss m u. some-moves s p f n processes x record { push = []; build = λ _. [] } (ap (next processes) (fixed-seen s t END k)) ss m (omega arith);
-        judges = λ _. passes-judged x n;
+        moves = λ c ss m u. some-moves s p f (p .next) processes x record { push = []; build = λ _. [] } (ap (next processes) (fixed-seen s t END k)) ss m (omega arith);
+        judges = λ _. passes-judged x;
       }
 
-pub processes-more : {s : List ℕ} {p q r : Spot} {l l1 l2 : List ℕ} → Reads aProcess s 32 p q l l1 → Reads (whole processes processesEndRoles) s 32 q r l1 l2
-    → Reads (whole processes processesEndRoles) s 32 p r l l2
+pub processes-more : {s : List ℕ} {p q r : Spot} {l l1 l2 v v1 v2 : List ℕ} → Reads aProcess s 32 p q l l1 v v1
+    → Reads (whole processes processesEndRoles processesDraft) s 32 q r l1 l2 v1 v2 → Reads (whole processes processesEndRoles processesDraft) s 32 p r l l2 v v2
 processes-more a b =
     record {
       tree = a .tree ∷ b .tree;

@@ -1,22 +1,23 @@
 // Names with their roles, and declarations of signals.
-use crate::Spot;
-use crate::emission::start_values;
-use crate::word;
+use emission::start_values;
 use ledger::SIGNALS;
 use ledger::declare;
 use look::Look;
 use look::peek;
+use reading::Spot;
+use reading::word;
 ghost use mathlib.Core.Path.{_≡_};
 ghost use mathlib.Core.List.{List};
 ghost use Prim.Native.Nat.{ℕ, _≤_};
-ghost use lib.ListN.{length};
+ghost use lib.ListN.{length, getD};
 ghost use Rattle.syntax.proofs.Rows.{aName, initialValue, moreSignals, signals};
-ghost use Rattle.reading.specs.Inside.Reading.{Ready, Reads, Named, whole, declaresRoles, initialRoles, moreSignalsRoles, signalsRoles};
+ghost use Rattle.emission.specs.Inside.Draft.{withName, declarationsDraft};
+ghost use Rattle.reading.specs.Inside.Reading.{Ready, Reads, Named, whole, declaresRoles, initialRoles, moreSignalsRoles, signalsRoles, initialDraft, moreSignalsDraft};
 
 // A name that nothing is said of.
 pub fn name(text: &[u8], p: Spot) -> Spot
     requires { ⌜ p .at ≤ length (now text) ⌝ }
-    ensures { λ r. ⌜ ((l : List ℕ) → Named (now (text .entry)) p r l) ⌝ }
+    ensures { λ r. ⌜ ((l v : List ℕ) → Named (now (text .entry)) p r l v) ⌝ }
 {
     if p.number != 0 {
         return p;
@@ -39,7 +40,7 @@ pub fn name(text: &[u8], p: Spot) -> Spot
 // A name in a declaration.
 fn declared(text: &[u8], ledger: &mut [u64; 328], p: Spot) -> Spot
     requires { ⌜ Ready 0 (now text) p (now ledger) ⌝ }
-    ensures { λ r. ⌜ Reads (whole aName declaresRoles) (now (text .entry)) 32 p r (now (ledger .entry)) (now (ledger .exit)) ⌝ }
+    ensures { λ r. ⌜ ((v : List ℕ) → Reads (whole aName declaresRoles withName) (now (text .entry)) 32 p r (now (ledger .entry)) (now (ledger .exit)) v v) ⌝ }
 {
     if p.number != 0 {
         return p;
@@ -60,10 +61,10 @@ fn declared(text: &[u8], ledger: &mut [u64; 328], p: Spot) -> Spot
     }
 }
 
-// [`:=` literal] `;`, for the signals from the first on.
+// [`:=` literal] `;`, for the signals from the first on; upto is how many there are.
 fn initial(text: &[u8], table: &mut [u64], p: Spot, first: usize, upto: usize) -> Spot
     requires { ⌜ p .at ≤ length (now text) ⌝ }
-    ensures { λ r. ⌜ ((l : List ℕ) → Reads (whole initialValue initialRoles) (now (text .entry)) 32 p r l l) ⌝ }
+    ensures { λ r. ⌜ ((l : List ℕ) → upto ≡ getD l 2 0 → Reads (whole initialValue initialRoles (initialDraft first)) (now (text .entry)) 32 p r l l (now (table .entry)) (now (table .exit))) ⌝ }
 {
     if p.number != 0 {
         return p;
@@ -105,7 +106,7 @@ fn more_signals(
     from: usize,
 ) -> Spot
     requires { ⌜ Ready 0 (now text) first (now ledger) ⌝ }
-    ensures { λ r. ⌜ Reads (whole moreSignals moreSignalsRoles) (now (text .entry)) 32 first r (now (ledger .entry)) (now (ledger .exit)) ⌝ }
+    ensures { λ r. ⌜ Reads (whole moreSignals moreSignalsRoles (moreSignalsDraft from)) (now (text .entry)) 32 first r (now (ledger .entry)) (now (ledger .exit)) (now (table .entry)) (now (table .exit)) ⌝ }
 {
     let mut p = first;
     while p.number == 0 {
@@ -129,7 +130,7 @@ fn more_signals(
 // {signal} `begin`
 pub fn declarations(text: &[u8], ledger: &mut [u64; 328], table: &mut [u64], first: Spot) -> Spot
     requires { ⌜ Ready 0 (now text) first (now ledger) ⌝ }
-    ensures { λ r. ⌜ Reads (whole signals signalsRoles) (now (text .entry)) 32 first r (now (ledger .entry)) (now (ledger .exit)) ⌝ }
+    ensures { λ r. ⌜ Reads (whole signals signalsRoles declarationsDraft) (now (text .entry)) 32 first r (now (ledger .entry)) (now (ledger .exit)) (now (table .entry)) (now (table .exit)) ⌝ }
 {
     let mut p = first;
     while p.number == 0 {

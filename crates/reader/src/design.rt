@@ -1,10 +1,8 @@
 // The whole text: refusals 1 to 10.
-use crate::Spot;
 use crate::declaration::declarations;
 use crate::declaration::name;
 use crate::process::closing_name;
 use crate::process::process_list;
-use crate::word;
 use ledger::NUMBER;
 use ledger::PLACE;
 use ledger::belong;
@@ -13,8 +11,11 @@ use lexis::token::Refusal;
 use lexis::token::first_refused;
 use look::Look;
 use look::peek;
+use reading::Spot;
+use reading::word;
 ghost use mathlib.Core.Path.{_≡_};
-ghost use Prim.Native.Nat.{_≤_, _<_};
+ghost use mathlib.Core.List.{List};
+ghost use Prim.Native.Nat.{ℕ, _≤_, _<_};
 ghost use lib.ListN.{length};
 ghost use Rattle.syntax.proofs.Rows.{Part, aName, partWord, closing as closingPart};
 ghost use Rattle.look.specs.Inside.Looks.{nameAt};
@@ -23,13 +24,13 @@ ghost use Rattle.ledger.specs.Inside.Standing.{Sound, Keeps, Span, nameOption};
 ghost use Rattle.names.specs.Judge.{fine, start};
 ghost use Rattle.names.specs.Text.{Scanned};
 ghost use Rattle.reader.specs.Answers.{Answers};
-ghost use Rattle.reading.specs.Inside.Reading.{Ready, Reads, whole, belongsRoles, closingPartRoles};
+ghost use Rattle.reading.specs.Inside.Reading.{Ready, Reads, whole, belongsRoles, closingPartRoles, silent};
 ghost use Rattle.reader.specs.Inside.Designs.{Finished, Behind, Designed, Surveyed};
 
 // The name after `of`; the entity's own goes from one place to another.
 fn of_name(text: &[u8], ledger: &mut [u64; 328], p: Spot, from: usize, to: usize) -> Spot
     requires { ⌜ Ready 0 (now text) p (now ledger) × Span (now text) from to ⌝ }
-    ensures { λ r. ⌜ Reads (whole aName (belongsRoles (nameAt (now (text .entry)) from to))) (now (text .entry)) 32 p r (now (ledger .entry)) (now (ledger .exit)) ⌝ }
+    ensures { λ r. ⌜ ((v : List ℕ) → Reads (whole aName (belongsRoles (nameAt (now (text .entry)) from to)) silent) (now (text .entry)) 32 p r (now (ledger .entry)) (now (ledger .exit)) v v) ⌝ }
 {
     if p.number != 0 {
         return p;
@@ -60,7 +61,7 @@ fn closing(
     to: usize,
 ) -> Spot
     requires { ⌜ Ready 0 (now text) p (now ledger) × Span (now text) from to × (kind < 117) ⌝ }
-    ensures { λ r. ⌜ ((u : Part) → kind ≡ fixedKind (partWord u) → Reads (whole (closingPart u) (closingPartRoles (nameOption (now (text .entry)) from to))) (now (text .entry)) 32 p r (now (ledger .entry)) (now (ledger .exit))) ⌝ }
+    ensures { λ r. ⌜ ((u : Part) → kind ≡ fixedKind (partWord u) → (v : List ℕ) → Reads (whole (closingPart u) (closingPartRoles (nameOption (now (text .entry)) from to)) silent) (now (text .entry)) 32 p r (now (ledger .entry)) (now (ledger .exit)) v v) ⌝ }
 {
     if p.number != 0 {
         return p;
@@ -106,7 +107,7 @@ fn architecture(
     to: usize,
 ) -> Spot
     requires { ⌜ Ready 0 (now text) p (now ledger) × Span (now text) from to ⌝ }
-    ensures { λ r. ⌜ Behind (now (text .entry)) (nameAt (now (text .entry)) from to) p r (now (ledger .entry)) (now (ledger .exit)) ⌝ }
+    ensures { λ r. ⌜ Behind (now (text .entry)) (nameAt (now (text .entry)) from to) p r (now (ledger .entry)) (now (ledger .exit)) (now (table .entry)) (now (table .exit)) ⌝ }
 {
     let a = word(text, p, Look::ARCHITECTURE);
     let own = peek(text, a.at);
@@ -123,7 +124,7 @@ fn architecture(
 // The whole text.
 pub fn design(text: &[u8], ledger: &mut [u64; 328], table: &mut [u64]) -> Spot
     requires { ⌜ Sound 0 (now text) (now ledger) ⌝ }
-    ensures { λ r. ⌜ Designed (now (text .entry)) r (now (ledger .entry)) (now (ledger .exit)) ⌝ }
+    ensures { λ r. ⌜ Designed (now (text .entry)) r (now (ledger .entry)) (now (ledger .exit)) (now (table .entry)) (now (table .exit)) ⌝ }
 {
     let p = Spot {
         number: 0,

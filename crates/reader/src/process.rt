@@ -1,9 +1,6 @@
 // Processes.
-use crate::Spot;
-use crate::emission::end_process;
-use crate::emission::wake;
-use crate::statement::statements;
-use crate::word;
+use emission::end_process;
+use emission::wake;
 use ledger::PROCESSES;
 use ledger::close;
 use ledger::label;
@@ -11,6 +8,9 @@ use ledger::listen;
 use ledger::open_process;
 use look::Look;
 use look::peek;
+use reading::Spot;
+use reading::word;
+use statements::statements;
 ghost use mathlib.Core.Path.{_≡_};
 ghost use mathlib.Core.List.{List};
 ghost use Prim.Native.Nat.{ℕ, _≤_};
@@ -18,13 +18,14 @@ ghost use lib.ListN.{length};
 ghost use Rattle.syntax.proofs.Rows.{aName, moreListed, closingName, processBody, processes, beginning as beginningSymbol};
 ghost use Rattle.look.specs.Inside.Looks.{lookOf};
 ghost use Rattle.ledger.specs.Inside.Standing.{Span, nameOption};
-ghost use Rattle.reading.specs.Inside.Spots.{wordOf, Forward};
-ghost use Rattle.reading.specs.Inside.Reading.{Ready, Reads, Opens, whole, aList, aProcess, listensRoles, moreListedRoles, beginningRoles, closingNameRoles, bodyRoles, processesEndRoles};
+ghost use Rattle.emission.specs.Inside.Draft.{withListener, processesDraft};
+ghost use Rattle.reading.specs.Inside.Spots.{Forward};
+ghost use Rattle.reading.specs.Inside.Reading.{Ready, Reads, Opens, whole, aList, aProcess, listensRoles, moreListedRoles, beginningRoles, closingNameRoles, bodyRoles, processesEndRoles, silent, moreListedDraft, bodyDraft};
 
 // A name in a sensitivity list.
 fn listened(text: &[u8], ledger: &mut [u64; 328], table: &mut [u64], p: Spot) -> Spot
     requires { ⌜ Ready 0 (now text) p (now ledger) ⌝ }
-    ensures { λ r. ⌜ Reads (whole aName listensRoles) (now (text .entry)) 32 p r (now (ledger .entry)) (now (ledger .exit)) ⌝ }
+    ensures { λ r. ⌜ Reads (whole aName listensRoles withListener) (now (text .entry)) 32 p r (now (ledger .entry)) (now (ledger .exit)) (now (table .entry)) (now (table .exit)) ⌝ }
 {
     if p.number != 0 {
         return p;
@@ -49,7 +50,7 @@ fn listened(text: &[u8], ledger: &mut [u64; 328], table: &mut [u64], p: Spot) ->
 // {`,` name} `)`
 fn more_listed(text: &[u8], ledger: &mut [u64; 328], table: &mut [u64], first: Spot) -> Spot
     requires { ⌜ Ready 0 (now text) first (now ledger) ⌝ }
-    ensures { λ r. ⌜ Reads (whole moreListed moreListedRoles) (now (text .entry)) 32 first r (now (ledger .entry)) (now (ledger .exit)) ⌝ }
+    ensures { λ r. ⌜ Reads (whole moreListed moreListedRoles moreListedDraft) (now (text .entry)) 32 first r (now (ledger .entry)) (now (ledger .exit)) (now (table .entry)) (now (table .exit)) ⌝ }
 {
     let mut p = first;
     while p.number == 0 {
@@ -70,7 +71,7 @@ fn more_listed(text: &[u8], ledger: &mut [u64; 328], table: &mut [u64], first: S
 // [`(` name {`,` name} `)`]
 fn list(text: &[u8], ledger: &mut [u64; 328], table: &mut [u64], p: Spot) -> Spot
     requires { ⌜ Ready 0 (now text) p (now ledger) ⌝ }
-    ensures { λ r. ⌜ Reads aList (now (text .entry)) 32 p r (now (ledger .entry)) (now (ledger .exit)) ⌝ }
+    ensures { λ r. ⌜ Reads aList (now (text .entry)) 32 p r (now (ledger .entry)) (now (ledger .exit)) (now (table .entry)) (now (table .exit)) ⌝ }
 {
     if p.number != 0 {
         return p;
@@ -91,7 +92,7 @@ fn list(text: &[u8], ledger: &mut [u64; 328], table: &mut [u64], p: Spot) -> Spo
 // [`is`] `begin`
 fn beginning(text: &[u8], p: Spot) -> Spot
     requires { ⌜ p .at ≤ length (now text) ⌝ }
-    ensures { λ r. ⌜ ((l : List ℕ) → Reads (whole beginningSymbol beginningRoles) (now (text .entry)) 32 p r l l) ⌝ }
+    ensures { λ r. ⌜ ((l v : List ℕ) → Reads (whole beginningSymbol beginningRoles silent) (now (text .entry)) 32 p r l l v v) ⌝ }
 {
     if p.number != 0 {
         return p;
@@ -111,7 +112,7 @@ fn beginning(text: &[u8], p: Spot) -> Spot
 // [name] `;`: the name of what is closed goes from one place to another, which are the same where there is none.
 pub fn closing_name(text: &[u8], ledger: &mut [u64; 328], p: Spot, from: usize, to: usize) -> Spot
     requires { ⌜ Ready 0 (now text) p (now ledger) × Span (now text) from to ⌝ }
-    ensures { λ r. ⌜ Reads (whole closingName (closingNameRoles (nameOption (now (text .entry)) from to))) (now (text .entry)) 32 p r (now (ledger .entry)) (now (ledger .exit)) ⌝ }
+    ensures { λ r. ⌜ ((v : List ℕ) → Reads (whole closingName (closingNameRoles (nameOption (now (text .entry)) from to)) silent) (now (text .entry)) 32 p r (now (ledger .entry)) (now (ledger .exit)) v v) ⌝ }
 {
     if p.number != 0 {
         return p;
@@ -139,7 +140,7 @@ fn body(
     to: usize,
 ) -> Spot
     requires { ⌜ Ready 0 (now text) p (now ledger) × Span (now text) from to ⌝ }
-    ensures { λ r. ⌜ Reads (whole processBody (bodyRoles (nameOption (now (text .entry)) from to))) (now (text .entry)) 32 p r (now (ledger .entry)) (now (ledger .exit)) ⌝ }
+    ensures { λ r. ⌜ Reads (whole processBody (bodyRoles (nameOption (now (text .entry)) from to)) bodyDraft) (now (text .entry)) 32 p r (now (ledger .entry)) (now (ledger .exit)) (now (table .entry)) (now (table .exit)) ⌝ }
 {
     let a = list(text, ledger, table, p);
     let b = beginning(text, a);
@@ -153,7 +154,7 @@ fn body(
 // The word `process` that opens one.
 fn opening(text: &[u8], ledger: &mut [u64; 328], p: Spot) -> Spot
     requires { ⌜ Ready 1 (now text) p (now ledger) ⌝ }
-    ensures { λ r. ⌜ Opens (now (text .entry)) p r (now (ledger .entry)) (now (ledger .exit)) ⌝ }
+    ensures { λ r. ⌜ ((v : List ℕ) → Opens (now (text .entry)) p r (now (ledger .entry)) (now (ledger .exit)) v) ⌝ }
 {
     if p.number != 0 {
         return p;
@@ -178,7 +179,7 @@ fn opening(text: &[u8], ledger: &mut [u64; 328], p: Spot) -> Spot
 fn process(text: &[u8], ledger: &mut [u64; 328], table: &mut [u64], p: Spot, t: Look) -> Spot
     requires { ⌜ Ready 0 (now text) p (now ledger) ⌝ }
     requires { ⌜ (p .number ≡ 0) × (t ≡ lookOf (now text) (p .at)) × (t .kind ≡ 2 → ⊥) ⌝ }
-    ensures { λ r. ⌜ Reads aProcess (now (text .entry)) 32 p r (now (ledger .entry)) (now (ledger .exit)) × Forward p r ⌝ }
+    ensures { λ r. ⌜ Reads aProcess (now (text .entry)) 32 p r (now (ledger .entry)) (now (ledger .exit)) (now (table .entry)) (now (table .exit)) × Forward p r ⌝ }
 {
     if t.kind == Look::NAME {
         label(text, ledger, t.start, t.end);
@@ -198,7 +199,7 @@ fn process(text: &[u8], ledger: &mut [u64; 328], table: &mut [u64], p: Spot, t: 
 // {process} `end`
 pub fn process_list(text: &[u8], ledger: &mut [u64; 328], table: &mut [u64], first: Spot) -> Spot
     requires { ⌜ Ready 0 (now text) first (now ledger) ⌝ }
-    ensures { λ r. ⌜ Reads (whole processes processesEndRoles) (now (text .entry)) 32 first r (now (ledger .entry)) (now (ledger .exit)) ⌝ }
+    ensures { λ r. ⌜ Reads (whole processes processesEndRoles processesDraft) (now (text .entry)) 32 first r (now (ledger .entry)) (now (ledger .exit)) (now (table .entry)) (now (table .exit)) ⌝ }
 {
     let mut p = first;
     while p.number == 0 {

@@ -8,9 +8,9 @@ use lib.ListN.{length, getD}
 use Rattle.words.specs.Token.{ENTITY}
 use Rattle.look.specs.Inside.Looks.{lookOf}
 use Rattle.ledger.specs.Inside.Standing.{namesFrom}
-use Rattle.reader.specs.declared.Spot.{Spot}
+use Rattle.reading.specs.declared.Spot.{Spot}
 use Rattle.reader.specs.Inside.Designs.{beginning}
-use Rattle.reader.proofs.Words.{worded}
+use Rattle.reading.proofs.Words.{worded}
 use Rattle.reader.proofs.Designs.{look-span}
 use Rattle.heading.proofs.Rows.{lower-at, lower-length, variables-more, line-written, variable-length, namesOn, names-first, names-none, names-next, Onward, onward-first, onward-more, onward-last, line-fits, header-written, survey-shelf, survey-names, survey-fits, survey-shows}
 use Rattle.heading.proofs.show.Statement.{statement}

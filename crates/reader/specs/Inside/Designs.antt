@@ -14,6 +14,7 @@ use Rattle.names.specs.Roles.{Role, belongs, passes, wordRoles, closingRoles, d
 use Rattle.names.specs.Judge.{State, fine}
 use Rattle.names.specs.CircuitOf.{entityName, signalNames}
 use Rattle.names.specs.Text.{accepts, refuses, Gets}
+use Rattle.emission.specs.Inside.Draft.{Draft, declarationsDraft, processesDraft, designDraft}
 use Rattle.ledger.specs.Inside.Standing.{Keeps}
 use Rattle.reader.specs.declared.design.Checked.{Checked}
 use Rattle.reader.specs.declared.design.Checked.the-variants.{Accepted, Refused}
@@ -49,11 +50,14 @@ architectureRoles e a r =
     passes ∷ passes ∷ passes ∷ belongs e (a .of) ∷ passes ∷ declarationsRoles (a .declared) (passes ∷ processesRoles (a .processes) (passes
     ∷ wordRoles (a .word) (closingRoles (some (a .name)) (a .closed) (passes ∷ r))))
 
-pub record Behind (s : List ℕ) (e : Name) (p q : Spot) (l l′ : List ℕ) : Type 0 where
+abbrev pub architectureDraft : Architecture → Draft → Draft
+architectureDraft a m = processesDraft (a .processes) (declarationsDraft (a .declared) m)
+
+pub record Behind (s : List ℕ) (e : Name) (p q : Spot) (l l′ v v′ : List ℕ) : Type 0 where
   pub tree : Architecture
   pub fine : q .number ≡ 0 → p .number ≡ 0
   pub moves : (k : Values Value behindEntity → Design) → verdict s p behindEntity k ≡ verdict s q [] (λ _. k (valuesOf tree))
-  pub judges : q .number ≡ 0 → Judged 0 0 s p q l l′ (architectureRoles e tree)
+  pub judges : q .number ≡ 0 → Judged 0 0 s p q l l′ v v′ (architectureRoles e tree) (architectureDraft tree)
   pub ends : q .number ≡ 0 → tokensFrom s (q .at) ≡ []
 
 -- the whole text
@@ -70,14 +74,14 @@ designOf e w c a = design e w c (a .name) (a .of) (a .declared) (a .processes) (
 abbrev pub ownName : List ℕ → Name
 ownName s = theName s (wordOf s beginning 0 .at)
 
-pub record Designed (s : List ℕ) (q : Spot) (l l′ : List ℕ) : Type 0 where
+pub record Designed (s : List ℕ) (q : Spot) (l l′ v v′ : List ℕ) : Type 0 where
   pub entity : Name
   pub word : Bool
   pub closed : Option Name
   pub behind : Architecture
   pub named : entity ≡ ownName s
   pub moves : verdict s beginning (aDesign ∷ []) (λ vs. vs .0) ≡ verdict s q [] (λ _. designOf entity word closed behind)
-  pub judges : q .number ≡ 0 → Judged 0 0 s beginning q l l′ (wholeRoles entity word closed behind)
+  pub judges : q .number ≡ 0 → Judged 0 0 s beginning q l l′ v v′ (wholeRoles entity word closed behind) (designDraft (designOf entity word closed behind))
   pub ends : q .number ≡ 0 → tokensFrom s (q .at) ≡ []
 
 -- what a text gets, and where it is accepted the state that its tokens lead to, which the ledger keeps

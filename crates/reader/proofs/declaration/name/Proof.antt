@@ -6,21 +6,21 @@ use native.Mathlib.Omega.{arith}
 use borrow.Author.Needs.{needs}
 use Rattle.reading.specs.Inside.Reading.{Named}
 use Rattle.reading.proofs.Generic.{reads-off, span, held, ready-token, ready-pass, ready-word, ready-reads, ready-at}
-use Rattle.reader.proofs.Declarations.{name-read, name-unfit, named-read, named-unfit, initial-none, initial-low, initial-high, initial-given, more-typed, more-comma, signals-end, signals-more}
+use Rattle.reader.proofs.Declarations.{named-read, named-unfit}
 use Rattle.reader.proofs.declaration.name.Statement.{statement}
 use Rattle.reader.proofs.declaration.name.Tie as tie
 
 returns : tie.Need-returns
-returns c = λ l. record { reads = reads-off _ (c .before .before .before .pre) (c .if1 .taken); some = λ z. absurd (c .if1 .taken z) }
+returns c = λ l v. record { reads = reads-off _ (c .before .before .before .pre) (c .if1 .taken); some = λ z. absurd (c .if1 .taken z) }
 
 peek-requires : tie.Need-peek-requires
 peek-requires c κs = search needs
 
 returns-2 : tie.Need-returns-2
-returns-2 c = λ l. named-unfit (c .before .before .before .before .before .before .pre) (c .before .before .before .if1 .left) (c .before .before .peek .ensures) _ (c .if2 .taken)
+returns-2 c = λ l v. named-unfit (c .before .before .before .before .before .before .pre) (c .before .before .before .if1 .left) (c .before .before .peek .ensures) _ (c .if2 .taken)
 
 returns-3 : tie.Need-returns-3
-returns-3 c = λ l. named-read (c .before .before .before .before .before .before .pre) (c .before .before .before .if1 .left) (c .before .before .peek .ensures) _ (c .if2 .left)
+returns-3 c = λ l v. named-read (c .before .before .before .before .before .before .pre) (c .before .before .before .if1 .left) (c .before .before .peek .ensures) (c .if2 .left)
 
 pub name-spec : {M : Type 1} → statement M
 name-spec = tie.close (tie.spec returns peek-requires returns-2 returns-3)

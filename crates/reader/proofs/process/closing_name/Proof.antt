@@ -6,12 +6,12 @@ use native.Mathlib.Omega.{arith}
 use borrow.Author.Needs.{needs}
 use Rattle.look.proofs.Looks.{seen-there}
 use Rattle.reading.proofs.Generic.{reads-off, span, held, ready-token, ready-pass, ready-word, ready-reads, ready-at}
-use Rattle.reader.proofs.Processes.{listed-end, listed-comma, list-none, list-some, beginning-plain, beginning-is, closing-none, closing-some, body-read, opens-read, opens-unfit, opens-off, process-labelled, process-plain, processes-end, processes-more}
+use Rattle.reader.proofs.Processes.{closing-none, closing-some}
 use Rattle.reader.proofs.process.closing_name.Statement.{statement}
 use Rattle.reader.proofs.process.closing_name.Tie as tie
 
 returns : tie.Need-returns
-returns c = reads-off _ (c .before .before .before .pre .0 .inside) (c .if1 .taken)
+returns c = λ v. reads-off _ (c .before .before .before .pre .0 .inside) (c .if1 .taken)
 
 peek-requires : tie.Need-peek-requires
 peek-requires c κs = c .before .before .before .pre .0 .inside
@@ -20,7 +20,7 @@ word-requires : tie.Need-word-requires
 word-requires c κs = c .before .before .before .before .before .before .pre .0 .inside
 
 returns-2 : tie.Need-returns-2
-returns-2 c = closing-none (c .before .before .before .before .before .before .before .pre .0 .inside) (c .before .before .before .before .if1 .left) (c .before .before .before .peek .ensures) (c .before .if2 .taken) (c .word .ensures)
+returns-2 c = λ v. closing-none (c .before .before .before .before .before .before .before .pre .0 .inside) (c .before .before .before .before .if1 .left) (c .before .before .before .peek .ensures) (c .before .if2 .taken) (c .word .ensures)
 
 close-requires : tie.Need-close-requires
 close-requires c κs =
@@ -31,7 +31,7 @@ word-requires-2 : tie.Need-word-requires-2
 word-requires-2 c κs = (seen-there (c .before .before .before .before .before .before .before .before .pre .0 .inside) (c .before .before .before .before .peek .ensures) (λ z. omega (arith, c .before .before .if2 .left, z))) .inside
 
 returns-3 : tie.Need-returns-3
-returns-3 c = closing-some (c .before .before .before .before .before .before .before .before .before .pre .0 .inside) (c .before .before .before .before .before .before .if1 .left) (c .before .before .before .before .before .peek .ensures) _ (c .before .before .before .if2 .left) (c .before .close .ensures) (c .word2 .ensures)
+returns-3 c = λ v. closing-some (c .before .before .before .before .before .before .before .before .before .pre .0 .inside) (c .before .before .before .before .before .before .if1 .left) (c .before .before .before .before .before .peek .ensures) (c .before .before .before .if2 .left) (c .before .close .ensures) (c .word2 .ensures)
 
 pub closing-name-spec : {M : Type 1} → statement M
 closing-name-spec =

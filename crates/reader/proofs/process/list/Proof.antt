@@ -5,7 +5,7 @@ use mathlib.Core.Path.{_≡_, refl, sym, ap, _∙_}
 use native.Mathlib.Omega.{arith}
 use borrow.Author.Needs.{needs}
 use Rattle.reading.proofs.Generic.{reads-off, span, held, ready-token, ready-pass, ready-word, ready-reads, ready-at}
-use Rattle.reader.proofs.Processes.{listed-end, listed-comma, list-none, list-some, beginning-plain, beginning-is, closing-none, closing-some, body-read, opens-read, opens-unfit, opens-off, process-labelled, process-plain, processes-end, processes-more}
+use Rattle.reader.proofs.Processes.{list-none, list-some}
 use Rattle.reader.proofs.process.list.Statement.{statement}
 use Rattle.reader.proofs.process.list.Tie as tie
 

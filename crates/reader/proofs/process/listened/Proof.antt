@@ -4,9 +4,10 @@ use Prim.Native.Nat.{ℕ, _+_, _-_, _*_, _<_, _≤_}
 use mathlib.Core.Path.{_≡_, refl, sym, ap, _∙_}
 use native.Mathlib.Omega.{arith}
 use borrow.Author.Needs.{needs}
-use Rattle.names.specs.Roles.{declares, listens}
+use Rattle.names.specs.Roles.{listens}
 use Rattle.reading.proofs.Generic.{reads-off, span, held, ready-token, ready-pass, ready-word, ready-reads, ready-at}
-use Rattle.reader.proofs.Declarations.{name-read, name-unfit, named-read, named-unfit, initial-none, initial-low, initial-high, initial-given, more-typed, more-comma, signals-end, signals-more}
+use Rattle.reader.proofs.Declarations.{name-unfit}
+use Rattle.reader.proofs.Processes.{listened-read}
 use Rattle.reader.proofs.process.listened.Statement.{statement}
 use Rattle.reader.proofs.process.listened.Tie as tie
 
@@ -32,7 +33,7 @@ same-length : tie.Need-same-length
 same-length c = search needs
 
 returns-3 : tie.Need-returns-3
-returns-3 c = name-read (c .before .before .before .before .before .before .before .before .before .before .before .before .before .before .pre .inside) (c .before .before .before .before .before .before .before .before .before .before .if1 .left) (c .before .before .before .before .before .before .before .before .before .peek .ensures) listens _ (c .before .before .before .before .before .before .before .if2 .left) (c .before .before .before .before .before .listen .ensures .0)
+returns-3 c = listened-read (c .before .before .before .before .before .before .before .before .before .before .before .before .before .before .pre .inside) (c .before .before .before .before .before .before .before .before .before .before .if1 .left) (c .before .before .before .before .before .before .before .before .before .peek .ensures) (c .before .before .before .before .before .before .before .if2 .left) (c .before .before .before .before .before .listen .ensures .0) (c .before .before .before .before .before .listen .ensures .1) (c .before .before .wake .ensures)
 
 pub listened-spec : {M : Type 1} → statement M
 listened-spec =
