@@ -14,13 +14,7 @@ fn number(digits: &[u8]) -> usize
     ensures { λ r. ⌜ r < 100000 ⌝ }
 {
     match amount_of(digits) {
-        Amount::Small(n) => {
-            if n < 100_000 {
-                n as usize
-            } else {
-                0
-            }
-        }
+        Amount::Small(n) => { if n < 100_000 { n as usize } else { 0 } }
         Amount::Large => 0,
     }
 }
