@@ -1,9 +1,7 @@
 /* How long an advance takes on three tables: the least and the middle time of many, per advance. */
-#include <stdint.h>
 #include <stdio.h>
-#include <stdlib.h>
-#include <string.h>
-#include <time.h>
+
+#include "../measure.h"
 
 uint64_t run_bench_begin(uint64_t *cells, const uint64_t *table, size_t table_length, uint8_t *out, size_t out_length);
 uint64_t run_bench_forward(uint64_t *cells, const uint64_t *table, size_t table_length, uint64_t stop, uint8_t *out, size_t out_length);
@@ -59,19 +57,6 @@ static void chain(void)
         follows(k - 1, k, 0, 0);
 }
 
-static double now(void)
-{
-    struct timespec t;
-    clock_gettime(CLOCK_MONOTONIC, &t);
-    return t.tv_sec * 1e9 + t.tv_nsec;
-}
-
-static int rising(const void *a, const void *b)
-{
-    double x = *(const double *)a, y = *(const double *)b;
-    return (x > y) - (x < y);
-}
-
 static void measure(const char *name, void (*make)(void))
 {
     static double inner[ROUNDS], outer[ROUNDS];
@@ -79,17 +64,17 @@ static void measure(const char *name, void (*make)(void))
     make();
     for (int r = 0; r < ROUNDS; r++) {
         run_bench_begin(cells, table, TABLE, out, OUT);
-        double from = now();
+        double from = nanoseconds();
         for (int i = 0; i < ADVANCES; i++)
             if (!run_bench_forward(cells, table, TABLE, stop, out, OUT))
                 exit(1);
-        inner[r] = (now() - from) / ADVANCES;
+        inner[r] = (nanoseconds() - from) / ADVANCES;
         run_bench_start(table, TABLE, words, SESSION, out, OUT);
-        from = now();
+        from = nanoseconds();
         for (int i = 0; i < ADVANCES / 10; i++)
             if (!run_bench_advance(table, TABLE, words, SESSION, stop, out, OUT))
                 exit(1);
-        outer[r] = (now() - from) / (ADVANCES / 10);
+        outer[r] = (nanoseconds() - from) / (ADVANCES / 10);
     }
     qsort(inner, ROUNDS, sizeof *inner, rising);
     qsort(outer, ROUNDS, sizeof *outer, rising);

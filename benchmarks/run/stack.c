@@ -1,16 +1,10 @@
-/* How much stack a call takes: the calls run on a painted stack of their own, and what they left painted is counted. */
-#include <stdint.h>
+/* How much stack a start and an advance take. */
 #include <stdio.h>
-#include <stdlib.h>
-#include <string.h>
-#include <ucontext.h>
 
+#include "../measure.h"
 #include "compassnail.h"
 #include "reference.h"
 
-enum { STACK = 1 << 20, PAINT = 0xa5 };
-
-static ucontext_t here, there;
 static uint64_t table[COMPASSNAIL_TABLE_WORDS], session[COMPASSNAIL_SESSION_WORDS], report[COMPASSNAIL_REPORT_WORDS];
 static uint8_t out[COMPASSNAIL_OUT_BYTES];
 static uint64_t answer;
@@ -24,18 +18,8 @@ static void advance(void) {
 }
 
 static void measure(const char *name, void (*call)(void)) {
-  uint8_t *stack = malloc(STACK);
-  memset(stack, PAINT, STACK);
-  getcontext(&there);
-  there.uc_stack.ss_sp = stack;
-  there.uc_stack.ss_size = STACK;
-  there.uc_link = &here;
-  makecontext(&there, call, 0);
-  swapcontext(&here, &there);
-  size_t left = 0;
-  while (left < STACK && stack[left] == PAINT) left++;
-  printf("%-8s %6zu bytes of stack, answer %llu\n", name, (size_t)STACK - left, (unsigned long long)answer);
-  free(stack);
+  size_t bytes = stack_of(call);
+  printf("%-8s %6zu bytes of stack, answer %llu\n", name, bytes, (unsigned long long)answer);
 }
 
 int main(void) {

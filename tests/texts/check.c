@@ -1,4 +1,4 @@
-/* Reads the stored texts through the C library and prints a line for each, as in the file `expected`. Usage: check < texts.
+/* Reads the stored texts through the C library and prints a line for each, as they are stored. Usage: check < TEXTS.
    The header call has to accept and refuse as the read call does. */
 #include "compassnail.h"
 

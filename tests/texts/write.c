@@ -1,5 +1,5 @@
-/* Writes the stored texts, what the reference answers to each, and a title for each. Usage: write FOLDER. README.md beside it has the
-   format. A text is made of pieces, each a number of times, so that long texts are stored short. */
+/* Writes the stored texts, what the reference answers to each, and a title for each. Usage: write TEXTS ANSWERS TITLES. README.md beside it
+   has the format. A text is made of pieces, each a number of times, so that long texts are stored short. */
 #include "designs.h"
 #include "reference.h"
 
@@ -635,12 +635,9 @@ static void by_chance(void)
     }
 }
 
-static FILE *open_in(const char *folder, const char *name)
+static FILE *open_file(const char *path)
 {
-    char path[4096];
-    FILE *file;
-    snprintf(path, sizeof path, "%s/%s", folder, name);
-    file = fopen(path, "wb");
+    FILE *file = fopen(path, "wb");
     if (!file) {
         perror(path);
         exit(2);
@@ -650,13 +647,13 @@ static FILE *open_in(const char *folder, const char *name)
 
 int main(int count, char **arguments)
 {
-    if (count != 2) {
-        fprintf(stderr, "usage: write FOLDER\n");
+    if (count != 4) {
+        fprintf(stderr, "usage: write TEXTS ANSWERS TITLES\n");
         return 2;
     }
-    texts = open_in(arguments[1], "texts");
-    expected = open_in(arguments[1], "expected");
-    titles = open_in(arguments[1], "titles");
+    texts = open_file(arguments[1]);
+    expected = open_file(arguments[2]);
+    titles = open_file(arguments[3]);
     all_bytes();
     tokens();
     lengths();
