@@ -1,23 +1,22 @@
 -- From the readers' answer to what the text gets.
 -- Assumes nothing.
-use Prim.Native.Nat.{ℕ, _+_, _<_, _≤_}
+use Prim.Native.Nat.{ℕ, _≤_}
 use native.Mathlib.Omega.{arith}
 use mathlib.Core.Path.{_≡_, refl, sym, ap, _∙_, subst}
 use mathlib.Core.Bool.{Bool, true, false}
-use mathlib.Core.List.{List, [], _∷_, map}
-use lib.ListN.{length, getD, drop, length-map}
+use mathlib.Core.List.{List, [], _∷_}
+use lib.ListN.{length, getD, length-map}
 use Rattle.laws.specs.Pick.{pick}
 use borrow.Author.Tests.{eq-eqb, ne-eqb, le-ltb}
-use Rattle.lexis.specs.declared.token.Refusal.the-variants.{At, Nowhere}
-use Rattle.lexis.specs.Token.{Placed, tokensOf, firstRefused}
+use Rattle.lexis.specs.Token.{tokensOf}
 use Rattle.syntax.specs.Tree.{Design}
 use Rattle.syntax.specs.Sentence.{Verdict, accepted, refused3, refused4}
 use Rattle.syntax.proofs.Rows.{aDesign}
-use Rattle.syntax.proofs.Theorem.{run, read}
+use Rattle.syntax.proofs.Theorem.{read}
 use Rattle.names.specs.Roles.{Role, designRoles}
 use Rattle.names.specs.CircuitOf.{signalNames}
 use Rattle.names.specs.Judge.{State, start, Judgement, fine, refused, onward, lowest, faults, next, judge, judged, judgedDesign}
-use Rattle.names.specs.Text.{mostBytes, Answer, accepts, refuses, tokens, starts, placeOf, Scanned, Gets, fits}
+use Rattle.names.specs.Text.{mostBytes, accepts, refuses, tokens, starts, placeOf, Scanned, Gets, fits}
 use Rattle.names.proofs.Answer.{answerTo, gets}
 use Rattle.names.proofs.Verdict.{afterAll}
 use Rattle.names.proofs.Tokens.{as-many}
@@ -29,7 +28,7 @@ use Rattle.reading.specs.declared.Spot.{Spot}
 use Rattle.reader.specs.declared.design.Checked.{Checked}
 use Rattle.reader.specs.declared.design.Checked.the-variants.{Accepted, Refused}
 use Rattle.reader.specs.Answers.{Answers}
-use Rattle.reading.specs.Inside.Spots.{tokensFrom, startsFrom, placedVerdict, machine, denied, verdict, judgement, drafted}
+use Rattle.reading.specs.Inside.Spots.{placedVerdict, machine, verdict, judgement, drafted}
 use Rattle.reader.specs.Inside.Designs.{designOf, beginning, Designed, Surveyed, acceptedAs, refusedAs}
 
 onward-fine : (j : Judgement) → onward j (λ y. fine y) ≡ j

@@ -1,38 +1,35 @@
 -- Names and declarations of signals: one law for each way of returning.
 -- Assumes nothing.
-use Prim.Native.Nat.{ℕ, _+_, _-_, _<_, _≤_}
+use Prim.Native.Nat.{ℕ, _<_, _≤_}
 use native.Mathlib.Omega.{arith}
 use mathlib.Core.Path.{_≡_, refl, sym, ap, _∙_, subst}
-use mathlib.Core.Bool.{Bool, true, false, _||_}
-use mathlib.Core.Option.{Option, none, some}
-use mathlib.Core.List.{List, [], _∷_, _++_}
+use mathlib.Core.Bool.{Bool, true, false}
+use mathlib.Core.Option.{none, some}
+use mathlib.Core.List.{List, [], _∷_}
 use lib.Dec.{eqb}
 use lib.ListN.{length, getD}
-use borrow.Author.Tests.{eq-eqb, ne-eqb, eqb-true, eqb-false}
-use Rattle.laws.specs.Pick.{pick}
+use borrow.Author.Tests.{ne-eqb, eqb-true, eqb-false}
 use Rattle.laws.proofs.Ranges.{within-below, within-above}
-use Rattle.words.specs.Token.{Name, SIGNAL, BEGIN, BOOLEAN, COLON, COMMA, SEMICOLON, BECOMES, name, literal, fixed}
-use Rattle.syntax.specs.Tree.{Design, declaration}
-use Rattle.syntax.proofs.Machine.{Values, Step, weights}
-use Rattle.syntax.proofs.Rows.{Symbol, Value, rows, next, aName, aLiteral, theWord, initialValue, moreSignals, signals, theFixed}
-use Rattle.syntax.proofs.Nesting.{weight}
+use Rattle.words.specs.Token.{Name, SIGNAL, BEGIN, BOOLEAN, COLON, COMMA, SEMICOLON, BECOMES, literal}
+use Rattle.syntax.specs.Tree.{declaration}
+use Rattle.syntax.proofs.Rows.{rows, next, aName, aLiteral, theWord, initialValue, moreSignals, signals, theFixed}
 use Rattle.syntax.proofs.Missing as missing
-use Rattle.names.specs.Roles.{Role, declares, passes}
+use Rattle.names.specs.Roles.{Role, passes}
 use Rattle.look.specs.declared.Look.{Look}
-use Rattle.look.specs.Inside.Looks.{part, nameAt, lookOf, tokenOfKind, tokenOfLook, literalOf}
-use Rattle.look.proofs.Looks.{There, View, seen, seen-there}
+use Rattle.look.specs.Inside.Looks.{part, nameAt, lookOf, tokenOfLook, literalOf}
+use Rattle.look.proofs.Looks.{seen, seen-there}
 use Rattle.look.proofs.Numbers.{takenBy, misfit, literal-token, name-seen, fixed-seen}
 use Rattle.names.specs.Judge.{State, fine}
 use Rattle.emission.specs.Inside.Draft.{Draft, begun, withName, withInitial, declarationDraft, declarationsDraft}
-use Rattle.ledger.specs.Inside.Standing.{Standing, Keeps, keepsFine, Judges}
+use Rattle.ledger.specs.Inside.Standing.{Keeps, keepsFine, Judges}
 use Rattle.ledger.proofs.Keeping.{signals-count}
 use Rattle.reading.specs.declared.Spot.{Spot}
-use Rattle.reading.specs.Inside.Spots.{verdict, drafted, Judged, past, unfit, wordOf}
-use Rattle.reading.specs.Inside.Reading.{What, whole, given, declaresRoles, initialRoles, moreSignalsRoles, signalsRoles, initialDraft, moreSignalsDraft, theName, Named, Reads}
+use Rattle.reading.specs.Inside.Spots.{drafted, Judged, past, unfit, wordOf}
+use Rattle.reading.specs.Inside.Reading.{whole, given, declaresRoles, initialRoles, moreSignalsRoles, signalsRoles, initialDraft, moreSignalsDraft, theName, Named, Reads}
 use Rattle.reading.proofs.Moves.{some-moves, stuck-moves, same-moves}
 use Rattle.reading.proofs.Judging.{draftOf, then-judged, redrafted, token-judged, passes-judged}
 use Rattle.reading.proofs.Words.{worded, only-word}
-use Rattle.reading.proofs.Generic.{near, within-text, reads-off, reads-stuck}
+use Rattle.reading.proofs.Generic.{near, within-text, reads-stuck}
 
 -- how many signals there are by the words that keep a state
 pub counted-signals : {s l : List ℕ} {y : State} → Keeps 0 s l (fine y) → getD l 2 0 ≡ length (y .signalNames)

@@ -2,12 +2,12 @@
 -- refused with a number and a place exactly where that refusal is due; so no second answer meets the promise. Assumes nothing.
 use Prim.Native.Nat.{ℕ}
 use native.Mathlib.Omega.{arith}
-use mathlib.Core.Path.{_≡_, refl, sym, ap, subst}
+use mathlib.Core.Path.{_≡_, refl, subst}
 use mathlib.Core.Logic.{_↔_}
 use mathlib.Core.List.{List}
 use Rattle.syntax.specs.Tree.{Design}
 use Rattle.names.specs.Judge.{Fits}
-use Rattle.names.specs.Text.{Answer, accepts, refuses, Written, Gets, fits}
+use Rattle.names.specs.Text.{accepts, refuses, Written, Gets, fits}
 use Rattle.names.proofs.Answer.{one-answer}
 use Rattle.reader.specs.declared.design.Checked.{Checked}
 use Rattle.reader.specs.declared.design.Checked.the-variants.{Accepted, Refused}

@@ -1,32 +1,26 @@
 -- The whole design: one law for each way of returning.
 -- Assumes nothing.
-use Prim.Native.Nat.{ℕ, _+_, _-_, _<_, _≤_}
+use Prim.Native.Nat.{ℕ, _<_, _≤_}
 use native.Mathlib.Omega.{arith}
-use mathlib.Core.Path.{_≡_, refl, sym, ap, _∙_, subst}
-use mathlib.Core.Bool.{Bool, true, false}
-use mathlib.Core.Option.{Option, none, some}
-use mathlib.Core.List.{List, [], _∷_, _++_, map}
+use mathlib.Core.Path.{_≡_, refl, ap, _∙_, subst}
+use mathlib.Core.Option.{Option, some}
+use mathlib.Core.List.{List, [], _∷_}
 use lib.ListN.{length}
-use borrow.Author.Tests.{eq-eqb, ne-eqb, lt-ltb}
-use Rattle.words.specs.Token.{Name, ENTITY, ARCHITECTURE, OF, IS, END, SEMICOLON, fixed}
-use Rattle.lexis.specs.Token.{Placed}
-use Rattle.syntax.specs.Tree.{Design, design}
-use Rattle.syntax.specs.Sentence.{refused3}
-use Rattle.syntax.proofs.Machine.{Values, Step, weights}
-use Rattle.syntax.proofs.Rows.{entityPart, architecturePart, Symbol, Value, rows, next, aDesign, aName, theWord, signals, processes, closing}
-use Rattle.syntax.proofs.Theorem.{run}
-use Rattle.names.specs.Roles.{Role, passes}
+use borrow.Author.Tests.{ne-eqb, lt-ltb}
+use Rattle.words.specs.Token.{Name, ENTITY, ARCHITECTURE, OF, IS, END}
+use Rattle.syntax.specs.Tree.{design}
+use Rattle.syntax.proofs.Rows.{entityPart, architecturePart, aDesign, aName, theWord, signals, processes, closing}
 use Rattle.look.specs.declared.Look.{Look}
 use Rattle.look.specs.Inside.Looks.{nameAt, lookOf}
-use Rattle.look.proofs.Looks.{There, Gone, View, there, gone, seen, seen-there, seen-gone}
+use Rattle.look.proofs.Looks.{View, there, gone, seen, seen-there, seen-gone}
 use Rattle.emission.specs.Inside.Draft.{declarationsDraft, processesDraft}
 use Rattle.ledger.specs.Inside.Standing.{Sound, Span, nameOption}
 use Rattle.reading.specs.declared.Spot.{Spot}
-use Rattle.reading.specs.Inside.Spots.{tokensFrom, machine, verdict, Judged, past, unfit, wordOf}
-use Rattle.reading.specs.Inside.Reading.{What, whole, given, theName, Named, belongsRoles, signalsRoles, processesEndRoles, closingPartRoles, silent, Ready, Reads}
-use Rattle.reader.specs.Inside.Designs.{Finished, behindEntity, Architecture, valuesOf, architectureRoles, architectureDraft, Behind, beginning, wholeRoles, designOf, Designed}
-use Rattle.reading.proofs.Moves.{on, off}
-use Rattle.reading.proofs.Judging.{none-judged, then-judged}
+use Rattle.reading.specs.Inside.Spots.{machine, verdict, Judged, unfit, wordOf}
+use Rattle.reading.specs.Inside.Reading.{whole, theName, Named, belongsRoles, signalsRoles, processesEndRoles, closingPartRoles, silent, Ready, Reads}
+use Rattle.reader.specs.Inside.Designs.{Finished, behindEntity, Architecture, architectureRoles, architectureDraft, Behind, beginning, Designed}
+use Rattle.reading.proofs.Moves.{on}
+use Rattle.reading.proofs.Judging.{then-judged}
 use Rattle.reading.proofs.Words.{worded, only-word}
 
 -- every look stands for a part of the text

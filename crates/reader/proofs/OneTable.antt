@@ -10,7 +10,7 @@ use Rattle.syntax.specs.Tree.{Design}
 use Rattle.table.specs.Translation.{translate}
 use Rattle.names.specs.CircuitOf.{circuitOf}
 use Rattle.names.specs.Judge.{Fits}
-use Rattle.names.specs.Text.{accepts, refuses, Written as TextOf, Gets, fits}
+use Rattle.names.specs.Text.{accepts, Written as TextOf, Gets, fits}
 use Rattle.names.proofs.Answer.{one-answer}
 use Rattle.layout.specs.TableWords.{tableSize, tableWords}
 use Rattle.reader.specs.declared.Tabled.{Tabled}

@@ -1,37 +1,32 @@
 -- Processes: one law for each way of returning.
 -- Assumes nothing.
-use Prim.Native.Nat.{ℕ, _+_, _-_, _<_, _≤_}
+use Prim.Native.Nat.{ℕ, _≤_}
 use native.Mathlib.Omega.{arith}
-use mathlib.Core.Path.{_≡_, refl, sym, ap, _∙_, subst}
-use mathlib.Core.Bool.{Bool, true, false, _||_}
+use mathlib.Core.Path.{_≡_, refl, ap, _∙_, subst}
+use mathlib.Core.Bool.{true, false}
 use mathlib.Core.Option.{Option, none, some}
-use mathlib.Core.List.{List, [], _∷_, _++_}
-use lib.Dec.{eqb, ltb}
+use mathlib.Core.List.{List, [], _∷_}
 use lib.ListN.{length, getD}
 use borrow.Author.Tests.{eq-eqb, ne-eqb, lt-ltb}
-use Rattle.laws.specs.Pick.{pick}
-use Rattle.words.specs.Token.{Name, IS, BEGIN, END, PROCESS, OPEN, CLOSE, COLON, COMMA, SEMICOLON, ENTITY, ARCHITECTURE, name, fixed}
-use Rattle.syntax.specs.Tree.{Design, Statements, done, unlisted, listed, process}
-use Rattle.syntax.proofs.Machine.{Values, Step, weights}
-use Rattle.syntax.proofs.Rows.{inProcess, Part, entityPart, architecturePart, partWord, Symbol, Value, rows, next, labelled, aName, theWord, moreListed, beginning, closingName, closing, processBody, processes, statements, theFixed, anyName}
-use Rattle.syntax.proofs.Nesting.{weight}
+use Rattle.words.specs.Token.{Name, IS, BEGIN, END, PROCESS, OPEN, CLOSE, COLON, COMMA, SEMICOLON, fixed}
+use Rattle.syntax.specs.Tree.{Statements, done, unlisted, listed}
+use Rattle.syntax.proofs.Rows.{inProcess, Part, entityPart, architecturePart, partWord, next, labelled, aName, theWord, moreListed, beginning, closingName, closing, processBody, processes, statements, theFixed}
 use Rattle.syntax.proofs.Missing as missing
-use Rattle.names.specs.Roles.{Role, listens, labels, opens, passes, closes}
+use Rattle.names.specs.Roles.{listens, labels, opens, closes}
 use Rattle.look.specs.declared.Look.{Look}
-use Rattle.look.specs.Inside.Looks.{part, nameAt, lookOf, tokenOfKind, tokenOfLook}
-use Rattle.look.proofs.Looks.{There, View, there, gone, seen, seen-there}
-use Rattle.look.proofs.Numbers.{fixedKind, takenBy, misfit, name-seen, fixed-seen}
+use Rattle.look.specs.Inside.Looks.{part, nameAt, lookOf, tokenOfLook}
+use Rattle.look.proofs.Looks.{seen, seen-there}
+use Rattle.look.proofs.Numbers.{fixedKind, misfit, name-seen, fixed-seen}
 use Rattle.names.specs.Judge.{State, fine, numberOf}
 use Rattle.emission.specs.Inside.Draft.{Draft, waking, ended, withListener, withEnd, processesDraft}
 use Rattle.ledger.specs.Inside.Standing.{Keeps, keepsFine, Judges, Numbers, nameOption}
 use Rattle.ledger.proofs.Keeping.{unlabelled}
 use Rattle.reading.specs.declared.Spot.{Spot}
-use Rattle.reading.specs.Inside.Spots.{verdict, drafted, Judged, past, unfit, wordOf, Stops, Forward}
-use Rattle.reading.specs.Inside.Reading.{What, whole, aList, aProcess, someStatements, listensRoles, moreListedRoles, beginningRoles, closingNameRoles, bodyRoles, processesEndRoles, closingPartRoles, silent, moreListedDraft, bodyDraft, Opens, Ready, Reads}
-use Rattle.reading.proofs.Moves.{off, some-moves, stuck-moves, same-moves}
+use Rattle.reading.specs.Inside.Spots.{verdict, drafted, past, unfit, wordOf, Stops}
+use Rattle.reading.specs.Inside.Reading.{whole, aList, aProcess, someStatements, listensRoles, moreListedRoles, beginningRoles, closingNameRoles, bodyRoles, processesEndRoles, closingPartRoles, silent, moreListedDraft, bodyDraft, Opens, Ready, Reads}
+use Rattle.reading.proofs.Moves.{some-moves, same-moves}
 use Rattle.reading.proofs.Judging.{none-judged, then-judged, redrafted, token-judged, passes-judged}
-use Rattle.reading.proofs.Words.{Only, Worded, worded, only-word}
-use Rattle.reading.proofs.Generic.{near, within-text, reads-off, reads-stuck}
+use Rattle.reading.proofs.Words.{worded, only-word}
 use Rattle.statements.proofs.Returns.{onto-done, only-process}
 use Rattle.reader.proofs.Declarations.{kept-after}
 

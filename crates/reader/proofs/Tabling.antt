@@ -1,7 +1,6 @@
 -- The second run over the text: it is accepted again, and the words it writes are those of the translation.
 -- Assumes nothing.
-use Prim.Native.Nat.{ℕ, _+_, _<_, _≤_}
-use native.Mathlib.Omega.{arith}
+use Prim.Native.Nat.{ℕ, _≤_}
 use mathlib.Core.Path.{_≡_, refl, sym, ap, _∙_}
 use mathlib.Core.Bool.{Bool, true, false}
 use mathlib.Core.List.{List}
@@ -10,7 +9,7 @@ use lib.ListN.{length, getD, set}
 use borrow.Author.Tests.{eqb-true, eqb-false}
 use Rattle.syntax.specs.Tree.{Design}
 use Rattle.names.specs.Judge.{State, start, fine}
-use Rattle.names.specs.Text.{accepts, refuses, Scanned, Gets, fits}
+use Rattle.names.specs.Text.{accepts, Scanned, Gets, fits}
 use Rattle.names.proofs.Answer.{one-answer}
 use Rattle.layout.specs.TableWords.{tableSize}
 use Rattle.emission.specs.Inside.Draft.{Draft, cleared, designDraft, nothing, counted}

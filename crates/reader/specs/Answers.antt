@@ -3,7 +3,7 @@
 use Prim.Native.Nat.{ℕ}
 use mathlib.Core.List.{List}
 use Rattle.syntax.specs.Tree.{Design}
-use Rattle.names.specs.Text.{Answer, accepts, refuses, Gets}
+use Rattle.names.specs.Text.{accepts, refuses, Gets}
 use Rattle.reader.specs.declared.design.Checked.{Checked}
 use Rattle.reader.specs.declared.design.Checked.the-variants.{Accepted, Refused}
 

@@ -1,10 +1,7 @@
 -- `reader::read` meets its contract: 11 first, then the text's own refusals, over one scratch word, then its table.
 -- Assumes nothing.
-use Prim.Native.Nat.{ℕ, _+_, _-_, _*_, _<_, _≤_}
-use mathlib.Core.Path.{_≡_, refl, sym, ap, _∙_, subst}
-use native.Mathlib.Omega.{arith}
+use mathlib.Core.Path.{refl, subst}
 use borrow.Author.Needs.{needs}
-use lib.ListN.{length, getD}
 use Rattle.reader.specs.Answers.{Answers}
 use Rattle.reader.specs.Tabled.{short, turned}
 use Rattle.reader.proofs.read.Statement.{statement}

@@ -1,10 +1,9 @@
 -- `reader::tabulate` meets its contract: the second run over the text, over zeros.
 -- Assumes nothing.
-use Prim.Native.Nat.{ℕ, _+_, _-_, _*_, _<_, _≤_}
-use mathlib.Core.Path.{_≡_, refl, sym, ap, _∙_}
+use mathlib.Core.Path.{refl}
 use native.Mathlib.Omega.{arith}
 use borrow.Author.Needs.{needs}
-use lib.ListN.{length, getD, set, length-set}
+use lib.ListN.{length-set}
 use Rattle.reader.proofs.Tabling.{translated}
 use Rattle.reader.proofs.tabulate.Statement.{statement}
 use Rattle.reader.proofs.tabulate.Tie as tie
@@ -28,13 +27,13 @@ array-read-table-2 : tie.Need-array-read-table-2
 array-read-table-2 c = search needs
 
 slice-write-table-2 : tie.Need-slice-write-table-2
-slice-write-table-2 c = omega (arith, length-set {A = ℕ} (c .before .before .design .last .1 .1 .0) 0 (getD (c .before .before .design .last .1 .0) 2 0), c .before .table2 .given, c .before .before .before .before .before .before .before .table .given, c .before .before .before .before .before .before .before .before .before .before .before .before .pre .1)
+slice-write-table-2 c = simp (length-set) (omega (arith, c .before .table2 .given, c .before .before .before .before .before .before .before .table .given, c .before .before .before .before .before .before .before .before .before .before .before .before .pre .1))
 
 slice-write-table-3 : tie.Need-slice-write-table-3
-slice-write-table-3 c = omega (arith, length-set {A = ℕ} (set (c .before .before .design .last .1 .1 .0) 0 (getD (c .before .before .design .last .1 .0) 2 0)) 1 (getD (c .before .before .design .last .1 .0) 4 0), length-set {A = ℕ} (c .before .before .design .last .1 .1 .0) 0 (getD (c .before .before .design .last .1 .0) 2 0), c .before .table2 .given, c .before .before .before .before .before .before .before .table .given, c .before .before .before .before .before .before .before .before .before .before .before .before .pre .1)
+slice-write-table-3 c = simp (length-set) (omega (arith, c .before .table2 .given, c .before .before .before .before .before .before .before .table .given, c .before .before .before .before .before .before .before .before .before .before .before .before .pre .1))
 
 same-length : tie.Need-same-length
-same-length c = omega (arith, length-set {A = ℕ} (set (set (c .before .before .design .last .1 .1 .0) 0 (getD (c .before .before .design .last .1 .0) 2 0)) 1 (getD (c .before .before .design .last .1 .0) 4 0)) 2 (c .before .before .design .result .next), length-set {A = ℕ} (set (c .before .before .design .last .1 .1 .0) 0 (getD (c .before .before .design .last .1 .0) 2 0)) 1 (getD (c .before .before .design .last .1 .0) 4 0), length-set {A = ℕ} (c .before .before .design .last .1 .1 .0) 0 (getD (c .before .before .design .last .1 .0) 2 0), c .before .table2 .given, c .before .before .before .before .before .before .before .table .given, c .before .before .before .before .before .before .before .before .before .before .before .before .pre .1)
+same-length c = simp (length-set) (omega (arith, c .before .table2 .given, c .before .before .before .before .before .before .before .table .given, c .before .before .before .before .before .before .before .before .before .before .before .before .pre .1))
 
 returns : tie.Need-returns
 returns c = translated (c .before .before .before .before .before .before .before .before .before .before .before .before .pre .0 .1) (c .before .before .design .ensures) (c .before .before .before .before .before .fresh .ensures (c .before .before .before .before .before .before .before .before .before .before .before .before .args .text .now)) (c .before .before .before .before .before .before .before .before .before .before .before .before .pre .1) (c .before .before .before .before .before .before .before .before .clear .ensures) refl

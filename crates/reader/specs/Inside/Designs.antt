@@ -1,11 +1,10 @@
 -- What the readers of a whole design answer: as for its parts, up to the end of the text.
 -- Assumes nothing: these are definitions.
-use Prim.Native.Nat.{ℕ, _≤_}
+use Prim.Native.Nat.{ℕ}
 use mathlib.Core.Path.{_≡_}
 use mathlib.Core.Bool.{Bool}
 use mathlib.Core.Option.{Option, some}
 use mathlib.Core.List.{List, [], _∷_}
-use lib.ListN.{length}
 use Rattle.words.specs.Token.{Name, ARCHITECTURE, OF, IS}
 use Rattle.syntax.specs.Tree.{Declaration, Process, Design, design}
 use Rattle.syntax.proofs.Machine.{Values}

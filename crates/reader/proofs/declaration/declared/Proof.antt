@@ -1,11 +1,8 @@
 -- `reader::declaration::declared` meets its contract: each return by its law.
 -- Assumes nothing.
-use Prim.Native.Nat.{ℕ, _+_, _-_, _*_, _<_, _≤_}
-use mathlib.Core.Path.{_≡_, refl, sym, ap, _∙_}
 use native.Mathlib.Omega.{arith}
-use borrow.Author.Needs.{needs}
-use Rattle.names.specs.Roles.{declares, listens}
-use Rattle.reading.proofs.Generic.{reads-off, span, held, ready-token, ready-pass, ready-word, ready-reads, ready-at}
+use Rattle.names.specs.Roles.{declares}
+use Rattle.reading.proofs.Generic.{reads-off, span}
 use Rattle.reader.proofs.Declarations.{name-read, name-unfit}
 use Rattle.reader.proofs.declaration.declared.Statement.{statement}
 use Rattle.reader.proofs.declaration.declared.Tie as tie

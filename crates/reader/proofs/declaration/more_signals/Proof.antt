@@ -1,7 +1,7 @@
 -- `reader::declaration::more_signals` meets its contract: each return by its law.
 -- Assumes nothing.
-use Prim.Native.Nat.{ℕ, _+_, _-_, _*_, _<_, _≤_}
-use mathlib.Core.Path.{_≡_, refl, sym, ap, _∙_}
+use Prim.Native.Nat.{ℕ, _-_}
+use mathlib.Core.Path.{_≡_, refl}
 use native.Mathlib.Omega.{arith}
 use borrow.Author.Needs.{needs}
 use mathlib.Core.List.{List, []}
@@ -12,7 +12,7 @@ use Rattle.syntax.proofs.Rows.{moreSignals}
 use Rattle.look.proofs.Looks.{seen-there}
 use Rattle.reading.specs.Inside.Reading.{Ready, Reads, whole, moreSignalsRoles, moreSignalsDraft}
 use Rattle.reading.proofs.Words.{worded}
-use Rattle.reading.proofs.Generic.{reads-off, span, held, ready-token, ready-pass, ready-word, ready-reads, ready-at}
+use Rattle.reading.proofs.Generic.{reads-off, ready-pass, ready-reads}
 use Rattle.reader.proofs.Declarations.{more-typed, more-comma}
 use Rattle.reader.proofs.declaration.more_signals.Statement.{statement}
 use Rattle.reader.proofs.declaration.more_signals.Tie as tie

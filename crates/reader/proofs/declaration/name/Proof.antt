@@ -1,11 +1,7 @@
 -- `reader::declaration::name` meets its contract: each return by its law.
 -- Assumes nothing.
-use Prim.Native.Nat.{ℕ, _+_, _-_, _*_, _<_, _≤_}
-use mathlib.Core.Path.{_≡_, refl, sym, ap, _∙_}
-use native.Mathlib.Omega.{arith}
 use borrow.Author.Needs.{needs}
-use Rattle.reading.specs.Inside.Reading.{Named}
-use Rattle.reading.proofs.Generic.{reads-off, span, held, ready-token, ready-pass, ready-word, ready-reads, ready-at}
+use Rattle.reading.proofs.Generic.{reads-off}
 use Rattle.reader.proofs.Declarations.{named-read, named-unfit}
 use Rattle.reader.proofs.declaration.name.Statement.{statement}
 use Rattle.reader.proofs.declaration.name.Tie as tie

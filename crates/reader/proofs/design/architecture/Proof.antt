@@ -1,13 +1,12 @@
 -- `reader::design::architecture` meets its contract: part by part.
 -- Assumes nothing.
-use Prim.Native.Nat.{ℕ, _+_, _-_, _*_, _<_, _≤_}
-use mathlib.Core.Path.{_≡_, refl, sym, ap, _∙_}
+use mathlib.Core.Path.{refl}
 use native.Mathlib.Omega.{arith}
 use borrow.Author.Needs.{needs}
 use mathlib.Core.List.{[]}
 use Rattle.words.specs.Token.{ARCHITECTURE, OF, IS}
 use Rattle.syntax.proofs.Rows.{architecturePart}
-use Rattle.reading.proofs.Generic.{reads-off, span, held, ready-token, ready-pass, ready-word, ready-reads, ready-at, ready-named}
+use Rattle.reading.proofs.Generic.{ready-word, ready-reads, ready-named}
 use Rattle.reader.proofs.Designs.{look-span, architecture-read}
 use Rattle.reader.proofs.design.architecture.Statement.{statement}
 use Rattle.reader.proofs.design.architecture.Tie as tie

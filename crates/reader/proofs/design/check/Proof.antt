@@ -1,10 +1,7 @@
 -- `reader::design::check` meets its contract: a survey over a short table.
 -- Assumes nothing.
-use Prim.Native.Nat.{ℕ, _+_, _-_, _*_, _<_, _≤_}
-use mathlib.Core.Path.{_≡_, refl, sym, ap, _∙_}
-use native.Mathlib.Omega.{arith}
 use borrow.Author.Needs.{needs}
-use Rattle.reader.proofs.Answering.{answer-deep, answer-stuck, answer-judged, answer-accepted, answers-of}
+use Rattle.reader.proofs.Answering.{answers-of}
 use Rattle.reader.proofs.design.check.Statement.{statement}
 use Rattle.reader.proofs.design.check.Tie as tie
 

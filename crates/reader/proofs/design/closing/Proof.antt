@@ -1,10 +1,8 @@
 -- `reader::design::closing` meets its contract: each return by its law.
 -- Assumes nothing.
-use Prim.Native.Nat.{ℕ, _+_, _-_, _*_, _<_, _≤_}
-use mathlib.Core.Path.{_≡_, refl, sym, ap, _∙_}
+use mathlib.Core.Path.{sym, _∙_}
 use native.Mathlib.Omega.{arith}
-use borrow.Author.Needs.{needs}
-use Rattle.reading.proofs.Generic.{reads-off, span, held, ready-token, ready-pass, ready-word, ready-reads, ready-at, ready-named}
+use Rattle.reading.proofs.Generic.{reads-off, ready-pass}
 use Rattle.reader.proofs.Processes.{part-plain, part-word}
 use Rattle.reader.proofs.design.closing.Statement.{statement}
 use Rattle.reader.proofs.design.closing.Tie as tie

@@ -1,13 +1,12 @@
 -- `reader::design::design` meets its contract: part by part.
 -- Assumes nothing.
-use Prim.Native.Nat.{ℕ, _+_, _-_, _*_, _<_, _≤_}
-use mathlib.Core.Path.{_≡_, refl, sym, ap, _∙_}
+use mathlib.Core.Path.{refl}
 use native.Mathlib.Omega.{arith}
 use borrow.Author.Needs.{needs}
 use mathlib.Core.List.{[]}
 use Rattle.words.specs.Token.{ENTITY, IS, END}
 use Rattle.syntax.proofs.Rows.{entityPart}
-use Rattle.reading.proofs.Generic.{reads-off, span, held, ready-token, ready-pass, ready-word, ready-reads, ready-at, ready-named}
+use Rattle.reading.proofs.Generic.{ready-word, ready-reads, ready-named}
 use Rattle.reader.proofs.Designs.{look-span, begins, design-read}
 use Rattle.reader.proofs.design.design.Statement.{statement}
 use Rattle.reader.proofs.design.design.Tie as tie

@@ -1,10 +1,7 @@
 -- `reader::design::finished` meets its contract: each return by its law.
 -- Assumes nothing.
-use Prim.Native.Nat.{ℕ, _+_, _-_, _*_, _<_, _≤_}
-use mathlib.Core.Path.{_≡_, refl, sym, ap, _∙_}
-use native.Mathlib.Omega.{arith}
 use borrow.Author.Needs.{needs}
-use Rattle.reader.proofs.Designs.{look-span, finished-off, finished-end, finished-more, architecture-read, design-read}
+use Rattle.reader.proofs.Designs.{finished-off, finished-end, finished-more}
 use Rattle.reader.proofs.design.finished.Statement.{statement}
 use Rattle.reader.proofs.design.finished.Tie as tie
 

@@ -1,10 +1,7 @@
 -- `reader::design::judged` meets its contract: each return by its law.
 -- Assumes nothing.
-use Prim.Native.Nat.{ℕ, _+_, _-_, _*_, _<_, _≤_}
-use mathlib.Core.Path.{_≡_, refl, sym, ap, _∙_}
-use native.Mathlib.Omega.{arith}
 use borrow.Author.Needs.{needs}
-use Rattle.reader.proofs.Answering.{answer-deep, answer-stuck, answer-judged, answer-accepted, answers-of}
+use Rattle.reader.proofs.Answering.{answer-deep, answer-stuck, answer-judged, answer-accepted}
 use Rattle.reader.proofs.design.judged.Statement.{statement}
 use Rattle.reader.proofs.design.judged.Tie as tie
 

@@ -1,12 +1,9 @@
 -- `reader::design::of_name` meets its contract: each return by its law.
 -- Assumes nothing.
-use Prim.Native.Nat.{ℕ, _+_, _-_, _*_, _<_, _≤_}
-use mathlib.Core.Path.{_≡_, refl, sym, ap, _∙_}
 use native.Mathlib.Omega.{arith}
-use borrow.Author.Needs.{needs}
 use Rattle.names.specs.Roles.{belongs}
 use Rattle.look.specs.Inside.Looks.{nameAt}
-use Rattle.reading.proofs.Generic.{reads-off, span, held, ready-token, ready-pass, ready-word, ready-reads, ready-at, ready-named}
+use Rattle.reading.proofs.Generic.{reads-off, span}
 use Rattle.reader.proofs.Declarations.{name-read, name-unfit}
 use Rattle.reader.proofs.design.of_name.Statement.{statement}
 use Rattle.reader.proofs.design.of_name.Tie as tie

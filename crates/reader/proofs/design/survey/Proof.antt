@@ -1,8 +1,6 @@
 -- `reader::design::survey` meets its contract: each return by its law.
 -- Assumes nothing.
-use Prim.Native.Nat.{ℕ, _+_, _-_, _*_, _<_, _≤_}
-use mathlib.Core.Path.{_≡_, refl, sym, ap, _∙_}
-use native.Mathlib.Omega.{arith}
+use mathlib.Core.Path.{sym, _∙_}
 use borrow.Author.Needs.{needs}
 use Rattle.names.specs.Text.{tooLong, notLexical}
 use Rattle.reader.specs.Inside.Designs.{refusedAs}

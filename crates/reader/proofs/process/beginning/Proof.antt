@@ -1,11 +1,9 @@
 -- `reader::process::beginning` meets its contract: each return by its law.
 -- Assumes nothing.
-use Prim.Native.Nat.{ℕ, _+_, _-_, _*_, _<_, _≤_}
-use mathlib.Core.Path.{_≡_, refl, sym, ap, _∙_}
 use native.Mathlib.Omega.{arith}
 use borrow.Author.Needs.{needs}
 use Rattle.look.proofs.Looks.{seen-there}
-use Rattle.reading.proofs.Generic.{reads-off, span, held, ready-token, ready-pass, ready-word, ready-reads, ready-at}
+use Rattle.reading.proofs.Generic.{reads-off}
 use Rattle.reader.proofs.Processes.{beginning-plain, beginning-is}
 use Rattle.reader.proofs.process.beginning.Statement.{statement}
 use Rattle.reader.proofs.process.beginning.Tie as tie

@@ -1,12 +1,10 @@
 -- `reader::process::body` meets its contract: part by part.
 -- Assumes nothing.
-use Prim.Native.Nat.{ℕ, _+_, _-_, _*_, _<_, _≤_}
-use mathlib.Core.Path.{_≡_, refl, sym, ap, _∙_}
 use native.Mathlib.Omega.{arith}
 use borrow.Author.Needs.{needs}
 use mathlib.Core.List.{[]}
 use Rattle.words.specs.Token.{END, PROCESS}
-use Rattle.reading.proofs.Generic.{reads-off, span, held, ready-token, ready-pass, ready-word, ready-reads, ready-at}
+use Rattle.reading.proofs.Generic.{ready-word, ready-reads}
 use Rattle.reader.proofs.Processes.{body-read}
 use Rattle.reader.proofs.process.body.Statement.{statement}
 use Rattle.reader.proofs.process.body.Tie as tie

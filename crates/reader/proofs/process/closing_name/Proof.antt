@@ -1,11 +1,8 @@
 -- `reader::process::closing_name` meets its contract: each return by its law.
 -- Assumes nothing.
-use Prim.Native.Nat.{ℕ, _+_, _-_, _*_, _<_, _≤_}
-use mathlib.Core.Path.{_≡_, refl, sym, ap, _∙_}
 use native.Mathlib.Omega.{arith}
-use borrow.Author.Needs.{needs}
 use Rattle.look.proofs.Looks.{seen-there}
-use Rattle.reading.proofs.Generic.{reads-off, span, held, ready-token, ready-pass, ready-word, ready-reads, ready-at}
+use Rattle.reading.proofs.Generic.{reads-off, span}
 use Rattle.reader.proofs.Processes.{closing-none, closing-some}
 use Rattle.reader.proofs.process.closing_name.Statement.{statement}
 use Rattle.reader.proofs.process.closing_name.Tie as tie

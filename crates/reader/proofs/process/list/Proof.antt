@@ -1,10 +1,8 @@
 -- `reader::process::list` meets its contract: each return by its law.
 -- Assumes nothing.
-use Prim.Native.Nat.{ℕ, _+_, _-_, _*_, _<_, _≤_}
-use mathlib.Core.Path.{_≡_, refl, sym, ap, _∙_}
 use native.Mathlib.Omega.{arith}
 use borrow.Author.Needs.{needs}
-use Rattle.reading.proofs.Generic.{reads-off, span, held, ready-token, ready-pass, ready-word, ready-reads, ready-at}
+use Rattle.reading.proofs.Generic.{reads-off, ready-pass, ready-reads}
 use Rattle.reader.proofs.Processes.{list-none, list-some}
 use Rattle.reader.proofs.process.list.Statement.{statement}
 use Rattle.reader.proofs.process.list.Tie as tie

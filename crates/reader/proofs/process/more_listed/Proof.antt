@@ -1,7 +1,7 @@
 -- `reader::process::more_listed` meets its contract: each return by its law.
 -- Assumes nothing.
-use Prim.Native.Nat.{ℕ, _+_, _-_, _*_, _<_, _≤_}
-use mathlib.Core.Path.{_≡_, refl, sym, ap, _∙_}
+use Prim.Native.Nat.{ℕ, _-_}
+use mathlib.Core.Path.{_≡_, refl}
 use native.Mathlib.Omega.{arith}
 use borrow.Author.Needs.{needs}
 use mathlib.Core.List.{List}
@@ -10,7 +10,7 @@ use Rattle.reading.specs.declared.Spot.{Spot}
 use Rattle.syntax.proofs.Rows.{moreListed}
 use Rattle.look.proofs.Looks.{seen-there}
 use Rattle.reading.specs.Inside.Reading.{Ready, Reads, whole, moreListedRoles, moreListedDraft}
-use Rattle.reading.proofs.Generic.{reads-off, span, held, ready-token, ready-pass, ready-word, ready-reads, ready-at}
+use Rattle.reading.proofs.Generic.{reads-off, ready-pass, ready-reads}
 use Rattle.reader.proofs.Processes.{listed-end, listed-comma}
 use Rattle.reader.proofs.process.more_listed.Statement.{statement}
 use Rattle.reader.proofs.process.more_listed.Tie as tie

@@ -1,14 +1,12 @@
 -- `reader::process::process` meets its contract: with its label or without.
 -- Assumes nothing.
-use Prim.Native.Nat.{ℕ, _+_, _-_, _*_, _<_, _≤_}
-use mathlib.Core.Path.{_≡_, refl, sym, ap, _∙_}
 use native.Mathlib.Omega.{arith}
 use borrow.Author.Needs.{needs}
 use mathlib.Core.List.{[]}
 use Rattle.words.specs.Token.{COLON, PROCESS}
 use Rattle.look.proofs.Looks.{seen-there}
 use Rattle.reading.proofs.Words.{worded}
-use Rattle.reading.proofs.Generic.{reads-off, span, held, ready-token, ready-pass, ready-word, ready-reads, ready-at}
+use Rattle.reading.proofs.Generic.{span, ready-token, ready-word}
 use Rattle.reader.proofs.Processes.{ready-open, ready-opened, process-labelled, process-plain}
 use Rattle.reader.proofs.process.process.Statement.{statement}
 use Rattle.reader.proofs.process.process.Tie as tie

@@ -1,8 +1,7 @@
 -- `reader::process::process_list` meets its contract: each return by its law.
 -- Assumes nothing.
-use Prim.Native.Nat.{ℕ, _+_, _-_, _*_, _<_, _≤_}
-use mathlib.Core.Path.{_≡_, refl, sym, ap, _∙_}
-use native.Mathlib.Omega.{arith}
+use Prim.Native.Nat.{ℕ, _+_, _-_}
+use mathlib.Core.Path.{_≡_, refl}
 use borrow.Author.Needs.{needs}
 use mathlib.Core.List.{List}
 use lib.ListN.{length}
@@ -10,10 +9,9 @@ use Rattle.reading.specs.declared.Spot.{Spot}
 use lib.Dec.{eqb}
 use Rattle.laws.specs.Pick.{pick}
 use Rattle.syntax.proofs.Rows.{processes}
-use Rattle.look.proofs.Looks.{seen-there}
 use Rattle.emission.specs.Inside.Draft.{processesDraft}
 use Rattle.reading.specs.Inside.Reading.{Ready, Reads, whole, processesEndRoles}
-use Rattle.reading.proofs.Generic.{reads-off, span, held, ready-token, ready-pass, ready-word, ready-reads, ready-at}
+use Rattle.reading.proofs.Generic.{reads-off, ready-reads}
 use Rattle.reader.proofs.Processes.{processes-end, processes-more}
 use Rattle.statements.proofs.Returns.{reads-less}
 use Rattle.reader.proofs.process.process_list.Statement.{statement}
