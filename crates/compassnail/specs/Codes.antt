@@ -57,8 +57,8 @@ Small Quiet = Unit {0}
 Small StopReached = Unit {0}
 Small (Moves bytes time cycles steps) = bytes ≤ 4096
 
-header-131 : headerCode (headerWritten 131) ≡ 33536
-header-131 = refl
+header-of-a : headerCode (headerWritten 122) ≡ 31232
+header-of-a = refl
 
 third-at-20 : headerCode (headerRefused 3 20) ≡ 5123
 third-at-20 = refl
