@@ -4,8 +4,13 @@ use mathlib.Core.Path.{_≡_, refl, ap}
 use mathlib.Core.List.{List}
 use native.Mathlib.Omega.{arith}
 use Rattle.run.proofs.Once.{one-start, one-advance}
+use Rattle.reader.proofs.OneTable as reader
 use Rattle.heading.proofs.OneOutcome.{one-outcome}
-use Rattle.compassnail.specs.Codes.{headerCode, HeadsInC, heads, codeOf, reportAfter, StartsInC, AdvancesInC}
+use Rattle.compassnail.specs.Codes.{tableCode, ReadsInC, reads, headerCode, HeadsInC, heads, codeOf, reportAfter, StartsInC, AdvancesInC}
+
+pub read-once : (text table : List ℕ) (r s : ℕ) (left other : List ℕ) → ReadsInC text table r left → ReadsInC text table s other → (r ≡ s) × (left ≡ other)
+read-once text table r s left other (reads a x) (reads b y) =
+    let o = reader.one-outcome text table a b left other x y in (ap tableCode (o .0), o .1)
 
 pub header-once : (text out : List ℕ) (r s : ℕ) (left other : List ℕ) → HeadsInC text out r left → HeadsInC text out s other → (r ≡ s) × (left ≡ other)
 header-once text out r s left other (heads a x) (heads b y) =

@@ -1,32 +1,38 @@
--- What a header answers, as a number: it writes no more than a buffer has, and a refusal's number and place are small.
+-- What `read` and `header` answer, as numbers; the number and the place of a text that is not read are small.
 -- Assumes nothing.
 use Prim.Native.Nat.{ℕ, _+_, _*_, _≤_}
 use mathlib.Core.Path.{_≡_, subst}
 use mathlib.Core.List.{List}
 use native.Mathlib.Omega.{arith}
 use Rattle.names.proofs.Places.{refused-number, refused-early}
-use Rattle.demands.specs.Shown.{designHeader}
-use Rattle.demands.proofs.Header.{accepted-header-fits}
+use Rattle.reader.specs.declared.Tabled.{Tabled}
+use Rattle.reader.specs.declared.Tabled.the-variants.{Written as tableWritten, Refused as tableRefused}
+use Rattle.reader.specs.Tabled.{Tables}
+use Rattle.reader.specs.Tabled as tabled
 use Rattle.heading.specs.declared.Headed.{Headed}
 use Rattle.heading.specs.declared.Headed.the-variants.{Written, Refused}
-use Rattle.heading.specs.Headed.{RefusedWith, short, turned, Shows, Heads}
-use Rattle.compassnail.specs.Codes.{HeadsInC, heads}
+use Rattle.heading.specs.Headed.{Heads}
+use Rattle.compassnail.specs.Codes.{ReadsInC, reads, HeadsInC, heads}
 
-shows-small : {text out after : List ℕ} {bytes : ℕ} → Shows text out bytes after → bytes ≤ 4096
-unfolding designHeader
-shows-small {text} s = rw (s .counted) (accepted-header-fits text (s .tree) (s .gets))
+-- A TABLE
 
-refused-small : {text out : List ℕ} {number place : ℕ} → RefusedWith text out number place → (number ≤ 11) × (place ≤ 60000)
-refused-small (short h) = (omega arith, omega arith)
-refused-small {text} (turned h g) = (omega (arith, refused-number text g .1), refused-early text g)
+unread-small : {text table : List ℕ} {number place : ℕ} → tabled.RefusedWith text table number place → (number ≤ 11) × (place ≤ 60000)
+unread-small (tabled.RefusedWith.short h) = (omega arith, omega arith)
+unread-small {text} (tabled.RefusedWith.turned h g) = (omega (arith, refused-number text g .1), refused-early text g)
+
+module _ (text table after : List ℕ) (a : Tabled) (h : Tables text table a after) where
+  pub unread-fits : {number place : ℕ} → a ≡ tableRefused number place → (number ≤ 11) × (place ≤ 60000)
+  unread-fits e = unread-small (subst (λ b. Tables text table b after) e h .0)
+
+  pub read-in-c : a ≡ tableWritten → ReadsInC text table 0 after
+  read-in-c e = reads tableWritten (subst (λ b. Tables text table b after) e h)
+
+  pub unread-in-c : {number place r : ℕ} → a ≡ tableRefused number place → r ≡ number + 256 * place → ReadsInC text table r after
+  unread-in-c e n = rw n (reads (tableRefused _ _) (subst (λ b. Tables text table b after) e h))
+
+-- A HEADER
 
 module _ (text out after : List ℕ) (a : Headed) (h : Heads text out a after) where
-  pub header-small : {bytes : ℕ} → a ≡ Written bytes → bytes ≤ 4096
-  header-small e = shows-small (subst (λ b. Heads text out b after) e h)
-
-  pub refusal-small : {number place : ℕ} → a ≡ Refused number place → (number ≤ 11) × (place ≤ 60000)
-  refusal-small e = refused-small (subst (λ b. Heads text out b after) e h .0)
-
   pub header-in-c : {bytes : ℕ} → a ≡ Written bytes → HeadsInC text out (256 * bytes) after
   header-in-c e = heads (Written _) (subst (λ b. Heads text out b after) e h)
 

@@ -8,9 +8,21 @@ use lib.Seq.{sets}
 use Rattle.session.specs.declared.Answer.{Answer}
 use Rattle.session.specs.declared.Answer.the-variants.{Refused, Quiet, StopReached, Moves}
 use Rattle.run.specs.Lent.{Starts, Advances}
+use Rattle.reader.specs.declared.Tabled.{Tabled}
+use Rattle.reader.specs.declared.Tabled.the-variants.{Written as tableWritten, Refused as tableRefused}
+use Rattle.reader.specs.Tabled.{Tables}
 use Rattle.heading.specs.declared.Headed.{Headed}
 use Rattle.heading.specs.declared.Headed.the-variants.{Written as headerWritten, Refused as headerRefused}
 use Rattle.heading.specs.Headed.{Heads}
+
+-- A TEXT'S TABLE
+
+abbrev pub tableCode : Tabled → ℕ
+tableCode tableWritten = 0
+tableCode (tableRefused number place) = number + 256 * place
+
+pub data ReadsInC (text table : List ℕ) : ℕ → List ℕ → Type 0 where
+  reads : {tableLeft : List ℕ} (a : Tabled) → Tables text table a tableLeft → ReadsInC text table (tableCode a) tableLeft
 
 -- A TEXT'S HEADER
 

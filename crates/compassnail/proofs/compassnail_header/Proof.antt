@@ -2,7 +2,8 @@
 -- Assumes nothing.
 use native.Mathlib.Omega.{arith}
 use borrow.Author.Needs.{needs}
-use Rattle.compassnail.proofs.Texts.{header-small, refusal-small, header-in-c, refusal-in-c}
+use Rattle.heading.proofs.Sizes.{header-small, refusal-small}
+use Rattle.compassnail.proofs.Texts.{header-in-c, refusal-in-c}
 use Rattle.compassnail.proofs.compassnail_header.Statement.{statement}
 use Rattle.compassnail.proofs.compassnail_header.Tie as tie
 
