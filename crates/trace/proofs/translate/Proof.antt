@@ -1,0 +1,51 @@
+-- `trace::translate` meets its contract: the table of an accepted text is fit.
+-- Assumes nothing.
+use Rattle.demands_code.proofs.Demand3.{demand-3}
+use borrow.Author.Needs.{needs}
+use Rattle.trace.proofs.translate.Statement.{statement}
+use Rattle.trace.proofs.translate.Tie as tie
+
+slice-aggregate-read : tie.Need-slice-aggregate-read
+slice-aggregate-read c = search needs
+
+read-requires : tie.Need-read-requires
+read-requires c κs = search needs
+
+enum-known-number : tie.Need-enum-known-number
+enum-known-number c = search needs
+
+slice-aggregate-refused : tie.Need-slice-aggregate-refused
+slice-aggregate-refused c = search needs
+
+refused-requires : tie.Need-refused-requires
+refused-requires c κs = search needs
+
+enum-told : tie.Need-enum-told
+enum-told c = search needs
+
+slice-aggregate-run : tie.Need-slice-aggregate-run
+slice-aggregate-run c = search needs
+
+run-requires : tie.Need-run-requires
+run-requires c κs = (demand-3 _ _ _ (rw (c .before .enum-told .given .1) at (c .before .before .before .before .read .ensures)) .1 .fit, c .before .before .before .before .before .before .before .pre)
+
+returns : tie.Need-returns
+returns c = search needs
+
+returns-2 : tie.Need-returns-2
+returns-2 c = search needs
+
+pub translate-spec : {M : Type 1} → statement M
+translate-spec =
+    tie.close
+    (tie.spec
+    slice-aggregate-read
+    read-requires
+    enum-known-number
+    slice-aggregate-refused
+    refused-requires
+    enum-told
+    slice-aggregate-run
+    run-requires
+    returns
+    returns-2)
