@@ -24,10 +24,13 @@ slice-aggregate-go-on : tie.Need-slice-aggregate-go-on
 slice-aggregate-go-on c = search needs
 
 go-on-requires : tie.Need-go-on-requires
-go-on-requires c κs = (search needs, (moved-fit _ _ _ _ _ _ _ _ _ _ _ (c .before .before .before .before .before .before .before .before .begin .ensures) (c .before .before .before .before .before .bytes .given .1), (search needs, search needs)))
+go-on-requires c κs = (search needs, (moved-fit _ _ _ _ _ _ _ _ _ _ _ (c .before .before .before .before .before .before .before .before .before .before .before .before .begin .ensures) (c .before .before .before .before .before .before .before .before .before .bytes .given .1), (search needs, (search needs, (search needs, c .before .before .before .before .before .moved .ensures)))))
 
 enum-known-number : tie.Need-enum-known-number
 enum-known-number c = search needs
+
+flush-requires : tie.Need-flush-requires
+flush-requires c κs = search needs
 
 slice-aggregate-refused : tie.Need-slice-aggregate-refused
 slice-aggregate-refused c = search needs
@@ -41,8 +44,14 @@ enum-told c = search needs
 enum-told-2 : tie.Need-enum-told-2
 enum-told-2 c = search needs
 
+same-length : tie.Need-same-length
+same-length c = search needs
+
 returns : tie.Need-returns
 returns c = search needs
+
+same-length-2 : tie.Need-same-length-2
+same-length-2 c = search needs
 
 returns-2 : tie.Need-returns-2
 returns-2 c = search needs
@@ -65,11 +74,14 @@ run-spec =
     slice-aggregate-go-on
     go-on-requires
     enum-known-number
+    flush-requires
     slice-aggregate-refused
     refused-requires
     enum-told
     enum-told-2
+    same-length
     returns
+    same-length-2
     returns-2
     returns-3
     returns-4)

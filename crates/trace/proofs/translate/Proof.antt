@@ -23,11 +23,20 @@ refused-requires c κs = search needs
 enum-told : tie.Need-enum-told
 enum-told c = search needs
 
+slice-aggregate-header : tie.Need-slice-aggregate-header
+slice-aggregate-header c = search needs
+
+header-requires : tie.Need-header-requires
+header-requires c κs = search needs
+
 slice-aggregate-run : tie.Need-slice-aggregate-run
 slice-aggregate-run c = search needs
 
+slice-aggregate-run-2 : tie.Need-slice-aggregate-run-2
+slice-aggregate-run-2 c = search needs
+
 run-requires : tie.Need-run-requires
-run-requires c κs = (demand-3 _ _ _ (rw (c .before .enum-told .given .1) at (c .before .before .before .before .read .ensures)) .1 .fit, c .before .before .before .before .before .before .before .pre)
+run-requires c κs = (demand-3 _ _ _ (rw (c .before .before .before .before .before .enum-told .given .1) at (c .before .before .before .before .before .before .before .before .read .ensures)) .1 .fit, (search needs, (search needs, c .before .before .before .header .ensures)))
 
 returns : tie.Need-returns
 returns c = search needs
@@ -45,7 +54,10 @@ translate-spec =
     slice-aggregate-refused
     refused-requires
     enum-told
+    slice-aggregate-header
+    header-requires
     slice-aggregate-run
+    slice-aggregate-run-2
     run-requires
     returns
     returns-2)
