@@ -1,4 +1,4 @@
--- Answers as numbers: a call writes no more than a buffer has, and no second outcome of a call in C fits.
+-- Answers of a run as numbers: a call writes no more than a buffer has.
 -- Assumes nothing.
 use Prim.Native.Nat.{ℕ, _≤_, _<_}
 use mathlib.Core.Path.{_≡_, refl, sym, ap, subst, _∙_}

@@ -1,6 +1,6 @@
 -- An answer as one number for C, kind + 256 * detail, and the report of a call that moved.
--- Kind 0 is done (detail: bytes written), 1 to 33 a refusal, 254 quiet, 255 stop reached. Assumes nothing: these are definitions.
-use Prim.Native.Nat.{ℕ, _*_, _≤_, _<_}
+-- Kind 0 is done (detail: bytes written), 1 to 33 a refusal (detail: its place, where it has one), 254 quiet, 255 stop reached. Assumes nothing: these are definitions.
+use Prim.Native.Nat.{ℕ, _+_, _*_, _≤_, _<_}
 use mathlib.Core.Path.{_≡_, refl}
 use mathlib.Core.List.{List, [], _∷_}
 use lib.ListN.{length}
@@ -8,6 +8,32 @@ use lib.Seq.{sets}
 use Rattle.session.specs.declared.Answer.{Answer}
 use Rattle.session.specs.declared.Answer.the-variants.{Refused, Quiet, StopReached, Moves}
 use Rattle.run.specs.Lent.{Starts, Advances}
+use Rattle.reader.specs.declared.Tabled.{Tabled}
+use Rattle.reader.specs.declared.Tabled.the-variants.{Written as tableWritten, Refused as tableRefused}
+use Rattle.reader.specs.Tabled.{Tables}
+use Rattle.heading.specs.declared.Headed.{Headed}
+use Rattle.heading.specs.declared.Headed.the-variants.{Written as headerWritten, Refused as headerRefused}
+use Rattle.heading.specs.Headed.{Heads}
+
+-- A TEXT'S TABLE
+
+abbrev pub tableCode : Tabled → ℕ
+tableCode tableWritten = 0
+tableCode (tableRefused number place) = number + 256 * place
+
+pub data ReadsInC (text table : List ℕ) : ℕ → List ℕ → Type 0 where
+  reads : {tableLeft : List ℕ} (a : Tabled) → Tables text table a tableLeft → ReadsInC text table (tableCode a) tableLeft
+
+-- A TEXT'S HEADER
+
+abbrev pub headerCode : Headed → ℕ
+headerCode (headerWritten bytes) = 256 * bytes
+headerCode (headerRefused number place) = number + 256 * place
+
+pub data HeadsInC (text out : List ℕ) : ℕ → List ℕ → Type 0 where
+  heads : {outLeft : List ℕ} (a : Headed) → Heads text out a outLeft → HeadsInC text out (headerCode a) outLeft
+
+-- A TABLE'S RUN
 
 abbrev pub codeOf : Answer → ℕ
 codeOf (Refused number) = number
@@ -42,6 +68,12 @@ Small (Refused number) = Unit {0}
 Small Quiet = Unit {0}
 Small StopReached = Unit {0}
 Small (Moves bytes time cycles steps) = bytes ≤ 4096
+
+header-of-a : headerCode (headerWritten 122) ≡ 31232
+header-of-a = refl
+
+third-at-20 : headerCode (headerRefused 3 20) ≡ 5123
+third-at-20 = refl
 
 moved-17 : codeOf (Moves 17 0 1 6) ≡ 4352
 moved-17 = refl

@@ -1,3 +1,4 @@
 -- Laws of the header.
 pub mod Rows
 pub mod OneOutcome
+pub mod Sizes

@@ -1,5 +1,6 @@
 // Plays a table to standard output: its start, and advances up to a stop. What a run writes is gathered and written in large pieces.
 use libc::STDOUT_FILENO;
+use program::say_refused;
 use session::Answer;
 use session::begin;
 use session::forward;
@@ -10,13 +11,6 @@ ghost use Rattle.layout.specs.TableWords.{FitTableWords};
 ghost use Rattle.cells.specs.Cells.{FitFor};
 ghost use Rattle.machine.specs.Inside.Steps.{signalsOf};
 ghost use Rattle.player.specs.Inside.Turns.{Went};
-
-// The line of a refusal with no place.
-pub fn say_refused(number: u64) {
-    io::write_all(STDOUT_FILENO, b"refused ");
-    io::print_decimal(STDOUT_FILENO, number);
-    io::write_all(STDOUT_FILENO, b"\n");
-}
 
 // Writes the first so many bytes.
 fn flush(out: &[u8], count: usize)
@@ -96,7 +90,7 @@ fn go_on(cells: &mut [u64; 1152], table: &[u64], stop: u64, out: &mut [u8], firs
             }
             Turn::Refused(number) => {
                 flush(out, count);
-                say_refused(number);
+                say_refused(number, 0);
                 return;
             }
         }
@@ -120,7 +114,7 @@ pub fn play(table: &[u64], stop: u64)
             go_on(&mut cells, table, stop, &mut out, count);
         }
         Answer::Refused(number) => {
-            say_refused(number);
+            say_refused(number, 0);
         }
         Answer::Quiet => {}
         Answer::StopReached => {}

@@ -1,0 +1,2 @@
+-- Laws of the stop words.
+pub mod Stops

@@ -1,0 +1,2 @@
+-- What a program is given.
+pub mod Given
