@@ -7,7 +7,7 @@ use lib.ListN.{length, drop}
 use lib.Seq.{sets, sets-eq}
 use native.Mathlib.Omega.{arith}
 use Rattle.syntax.specs.Tree.{Design}
-use Rattle.rules.specs.Sizes.{longest}
+use Rattle.words.specs.Unit.{longest}
 use Rattle.rules.specs.Session.{Session, FitSession}
 use Rattle.rules.specs.Calls.{Moved, refused, quiet, stopReached, moved, start, advance, leaves}
 use Rattle.rules.specs.Calls as calls

@@ -6,7 +6,7 @@ use mathlib.Core.Bool.{Bool}
 use mathlib.Core.Logic.{_⊎_, inl, inr, ⊎-elim}
 use mathlib.Core.List.{List}
 use lib.ListN.{getD}
-use Rattle.rules.specs.Sizes.{longest}
+use Rattle.words.specs.Unit.{longest}
 use Rattle.fitness.specs.Decides.{Decides}
 use Rattle.fitness.specs.Inside.Parts.{Within}
 use Rattle.fitness.proofs.Deciding.{same-or}

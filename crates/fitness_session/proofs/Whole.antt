@@ -7,7 +7,8 @@ use mathlib.Core.Logic.{⊎-elim}
 use mathlib.Core.List.{List, []}
 use lib.ListN.{length, getD, List·getD-eq-default}
 use borrow.Author.Tests.{eq-eqb, ne-eqb}
-use Rattle.rules.specs.Sizes.{longest, mostPending}
+use Rattle.words.specs.Unit.{longest}
+use Rattle.rules.specs.Sizes.{mostPending}
 use Rattle.rules.specs.Pending.{Change}
 use Rattle.rules.specs.Session.{Session, Each, Rising, driven, FitSession}
 use Rattle.table.specs.Table.{Table, tabulate, runners}

@@ -2,7 +2,7 @@
 ghost use mathlib.Core.Path.{_≡_};
 ghost use Prim.Native.Nat.{_+_, _≤_, _<_};
 ghost use lib.ListN.{length, getD};
-ghost use Rattle.rules.specs.Sizes.{longest};
+ghost use Rattle.words.specs.Unit.{longest};
 ghost use Rattle.table.specs.Table.{Table};
 ghost use Rattle.table.specs.Fit.{FitTable};
 ghost use Rattle.layout.specs.TableWords.{HoldsTable, FitTableWords};

@@ -6,7 +6,7 @@ use mathlib.Core.Bool.{false}
 use mathlib.Core.Logic.{⊎-elim}
 use mathlib.Core.List.{List, [], map}
 use lib.ListN.{length, getD, length-map, List·getD-map, List·getD-eq-default}
-use Rattle.rules.specs.Sizes.{longest}
+use Rattle.words.specs.Unit.{longest}
 use Rattle.rules.specs.Pending.{Change}
 use Rattle.rules.specs.Runner.{Runner}
 use Rattle.rules.specs.Session.{Session, FitSession}

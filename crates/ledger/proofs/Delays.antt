@@ -10,7 +10,7 @@ use borrow.Author.Tests.{leb-true, leb-false, lt-leb}
 use lib.Dec.{leb}
 use lib.ListN.{getD}
 use Rattle.laws.specs.Pick.{pick}
-use Rattle.words.specs.Integer.{valueOf, largest, amountOf}
+use Rattle.words.specs.Integer.{valueOf, amountOf}
 use Rattle.words.specs.Unit.{femtosecondsOf, longest, delayOf}
 use Rattle.words.specs.declared.unit.TimeUnit.{TimeUnit}
 use Rattle.words.specs.declared.unit.TimeUnit.the-variants.{Fs, Ps, Ns, Us, Ms, Sec, Min, Hr}
@@ -40,11 +40,11 @@ grows n Hr = omega arith
 
 module _ (digits : List ℕ) (unit : TimeUnit) where
   pub small-amount : (n : ℕ) → amountOf digits ≡ Small n → {r : Delay} → r ≡ delayOf n unit → r ≡ delayOf (valueOf digits) unit
-  small-amount n e f = let z = amount-small (valueOf digits) n (leb (valueOf digits) largest) e in rw z f
+  small-amount n e f = let z = amount-small (valueOf digits) n (leb (valueOf digits) longest) e in rw z f
 
   pub large-amount : amountOf digits ≡ Large → TooLong ≡ delayOf (valueOf digits) unit
   large-amount e =
-      let h = leb-false (valueOf digits) largest (amount-large (valueOf digits) (leb (valueOf digits) largest) e) in
+      let h = leb-false (valueOf digits) longest (amount-large (valueOf digits) (leb (valueOf digits) longest) e) in
       let g : longest < valueOf digits * femtosecondsOf unit = le-trans h (grows (valueOf digits) unit) in
       rw (lt-leb (valueOf digits * femtosecondsOf unit) longest g)
 

@@ -9,7 +9,7 @@ use native.Mathlib.Nat.{mul-le-mul-left}
 use borrow.Author.Tests.{leb-false, lt-leb}
 use lib.Dec.{leb}
 use Rattle.laws.specs.Pick.{pick}
-use Rattle.words.specs.Integer.{valueOf, largest, amountOf}
+use Rattle.words.specs.Integer.{valueOf, amountOf}
 use Rattle.words.specs.Unit.{femtosecondsOf, longest, delayOf}
 use Rattle.words.specs.declared.unit.TimeUnit.{TimeUnit}
 use Rattle.words.specs.declared.unit.TimeUnit.the-variants.{Fs, Ps, Ns, Us, Ms, Sec, Min, Hr}
@@ -20,19 +20,19 @@ use Rattle.words.specs.declared.integer.Amount.the-variants.{Small, Large}
 -- what an amount says of the value
 abbrev Says : ℕ → Amount → Type 0
 Says value (Small n) = n ≡ value
-Says value Large = largest < value
+Says value Large = longest < value
 
 says : (digits : List ℕ) → Says (valueOf digits) (amountOf digits)
-says digits = go (leb (valueOf digits) largest) refl
+says digits = go (leb (valueOf digits) longest) refl
   where
-    go : (t : Bool) → leb (valueOf digits) largest ≡ t → Says (valueOf digits) (pick t (Small (valueOf digits)) Large)
+    go : (t : Bool) → leb (valueOf digits) longest ≡ t → Says (valueOf digits) (pick t (Small (valueOf digits)) Large)
     go true e = refl
-    go false e = leb-false (valueOf digits) largest e
+    go false e = leb-false (valueOf digits) longest e
 
 pub small-value : (digits : List ℕ) (n : ℕ) → amountOf digits ≡ Small n → n ≡ valueOf digits
 small-value digits n e = rw e at (says digits)
 
-large-value : (digits : List ℕ) → amountOf digits ≡ Large → largest < valueOf digits
+large-value : (digits : List ℕ) → amountOf digits ≡ Large → longest < valueOf digits
 large-value digits e = rw e at (says digits)
 
 some-femtoseconds : (u : TimeUnit) → 1 ≤ femtosecondsOf u

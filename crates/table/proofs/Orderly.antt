@@ -9,7 +9,8 @@ use lib.Dec.{ltb, eqb}
 use lib.ListN.{length, getD, set, replicate, length-set, length-append, length-map, length-replicate, List·getD-map}
 use lib.Seq.{getD-set-same, getD-set-other, set-out}
 use borrow.Author.Tests.{ltb-true, eqb-true, eqb-false}
-use Rattle.rules.specs.Sizes.{longest, mostPending}
+use Rattle.words.specs.Unit.{longest}
+use Rattle.rules.specs.Sizes.{mostPending}
 use Rattle.rules.specs.Formulas.{Values}
 use Rattle.rules.specs.Pending.{Change, Pending, before, post, kept}
 use Rattle.rules.specs.Runner.{Left, Runner, over, join, joined}

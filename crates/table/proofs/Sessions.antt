@@ -7,7 +7,8 @@ use mathlib.Core.List.{List, [], _∷_, map}
 use lib.Dec.{ltb}
 use lib.ListN.{length, getD, replicate}
 use borrow.Author.Tests.{ltb-false}
-use Rattle.rules.specs.Sizes.{longest, mostCycles}
+use Rattle.words.specs.Unit.{longest}
+use Rattle.rules.specs.Sizes.{mostCycles}
 use Rattle.rules.specs.Outcome.{Outcome, refuses, gives}
 use Rattle.rules.specs.Formulas.{Values}
 use Rattle.rules.specs.Pending.{Pending, kept, valuesAt, dueIn, due, Least, nothing, first, least}

@@ -9,7 +9,8 @@ use lib.ListN.{length, length-append}
 use borrow.Author.Tests.{ltb-false}
 use Rattle.laws.specs.Text.{bytes}
 use Rattle.words.specs.Token.{Name}
-use Rattle.rules.specs.Sizes.{mostSignals, longest, mostCycles, bufferBytes}
+use Rattle.words.specs.Unit.{longest}
+use Rattle.rules.specs.Sizes.{mostSignals, mostCycles, bufferBytes}
 use Rattle.rules.specs.Outcome.{Outcome, refuses, gives}
 use Rattle.rules.specs.Formulas.{Values, differ}
 use Rattle.rules.specs.Dump.{LF, variables, header, digits, decimal, all, startBytes, changed, headed, advanceBytes}
