@@ -4,8 +4,7 @@ pub mod shelf;
 use crate::shelf::add;
 use crate::shelf::find;
 use crate::shelf::refuse;
-use words::integer::Amount;
-use words::integer::amount_of;
+use words::integer::time_of;
 use words::unit::Delay;
 use words::unit::TimeUnit;
 use words::vocabulary::same_word;
@@ -16,7 +15,6 @@ ghost use Prim.Native.Nat.{ℕ, _<_, _≤_};
 ghost use lib.ListN.{getD};
 ghost use Rattle.laws.specs.Pick.{pick, within, sameList};
 ghost use Rattle.words.specs.Integer.{valueOf};
-ghost use Rattle.words.specs.Unit.{delayOf};
 ghost use Rattle.look.specs.Inside.Looks.{part, nameAt};
 ghost use Rattle.names.specs.Roles.{Role, declares, labels, listens, reads, assigns, belongs, closes, opens, delays, counts};
 ghost use Rattle.names.specs.Judge.{State, start, fine, refused, judge};
@@ -253,16 +251,6 @@ pub fn close(text: &[u8], ledger: &mut [u64; 328], from: usize, to: usize, start
     ensures { λ _. ⌜ Judges 0 0 (now (text .entry)) (closes (nameOption (now (text .entry)) from to) (nameAt (now (text .entry)) start end)) start (now (ledger .entry)) (now (ledger .exit)) ⌝ }
 {
     expect(text, ledger, 7, from, to, start, end);
-}
-
-// So many of a unit, in femtoseconds.
-fn time_of(digits: &[u8], unit: TimeUnit) -> Delay
-    ensures { λ r. ⌜ r ≡ delayOf (valueOf (now (digits .entry))) unit ⌝ }
-{
-    match amount_of(digits) {
-        Amount::Small(amount) => unit.femtoseconds(amount),
-        Amount::Large => Delay::TooLong,
-    }
 }
 
 // The integer of a delay in a unit. The answer is the delay in femtoseconds.
