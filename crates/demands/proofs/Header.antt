@@ -13,7 +13,7 @@ use Rattle.syntax.specs.Tree.{Declaration, declaration, Process, Design, design
 use Rattle.rules.specs.Sizes.{bufferBytes}
 use Rattle.rules.specs.Sized.{Sized}
 use Rattle.names.specs.CircuitOf.{circuitOf, entityName, signalNames, declaredNames}
-use Rattle.names.specs.Text.{accepts, Gets, fits}
+use Rattle.names.specs.Text.{accepts, Gets, faultless}
 use Rattle.names.proofs.Answer.{accepted-sized}
 use Rattle.names.proofs.Sizes.{as-many-signals}
 use Rattle.table.proofs.Written.{Short, header-fits}
@@ -62,7 +62,7 @@ design-short (design e w c a o ds ps w′ c′) h =
     (h .1 .0, declarations-short ds _ (name-rest c _ (word-rest w _ _ (h .1 .1 .1 .1)) .1 .1 .1 .1 .1 .1))
 
 pub accepted-short : (text : List ℕ) (d : Design) → Gets text (accepts d) → ShortDesign d
-accepted-short text d (fits w f) = design-short d (subst ShortNames (sym (w .sentence)) (short-names text))
+accepted-short text d (faultless w f) = design-short d (subst ShortNames (sym (w .sentence)) (short-names text))
 
 pub accepted-header-fits : (text : List ℕ) (d : Design) → Gets text (accepts d) → length (designHeader d) ≤ bufferBytes
 unfolding designHeader

@@ -17,7 +17,7 @@ ghost use Rattle.laws.specs.Pick.{pick, within, sameList};
 ghost use Rattle.words.specs.Integer.{valueOf};
 ghost use Rattle.look.specs.Inside.Looks.{part, nameAt};
 ghost use Rattle.names.specs.Roles.{Role, declares, labels, listens, reads, assigns, belongs, closes, opens, delays, counts};
-ghost use Rattle.names.specs.Judge.{State, start, fine, refused, judge};
+ghost use Rattle.names.specs.Judge.{State, nothingYet, fine, refused, judge};
 ghost use Rattle.ledger.specs.Inside.Standing.{Span, Shelf, Keeps, Sound, Held, Judges, Numbers, Lasts, usedIn, nameOption};
 
 // The words of a ledger: the number of the first refusal (0: none yet) and its place; how many signals, labels, processes and instructions there are;
@@ -42,7 +42,7 @@ const DRIVERS: usize = 264;
 
 // The ledger before the first token.
 pub fn fresh() -> [u64; 328]
-    ensures { λ r. ⌜ ((text : List ℕ) → Keeps 0 text r (fine start)) ⌝ }
+    ensures { λ r. ⌜ ((text : List ℕ) → Keeps 0 text r (fine nothingYet)) ⌝ }
 {
     [0u64; 328]
 }
