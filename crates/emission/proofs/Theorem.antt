@@ -109,9 +109,9 @@ module _ (m : Draft) (behind : List ℕ) (c : Circuit) (s : Sized c) (names : Li
   counted-table =
       sym (take-append-drop tableSize (counted m)) ∙ ap₂ (λ xs ys. xs ++ ys) (words-of-table (counted m) (translate c) counted-holds) (counts .after)
 
-pub drafted : (text words : List ℕ) (d : Design) → Gets text (accepts d) → tableSize ≤ length words
+pub drafted : (text words : List ℕ) (d : Design) → Gets text (accepts d)
     → counted (designDraft d (nothing (cleared words))) ≡ tableWords (translate (circuitOf d)) ++ drop tableSize words
-drafted text words (design e w c a o ds ps w′ c′) g _ =
+drafted text words (design e w c a o ds ps w′ c′) g =
     let d = design e w c a o ds ps w′ c′ in
     let s = accepted-sized text d g in
     let m = declarationsDraft ds (nothing (cleared words)) in

@@ -59,4 +59,4 @@ module _ {s : List ℕ} {t : Design} (got : Gets s (accepts t)) {q : Spot} {l l�
   pub translated : {words after : List ℕ} → tableSize ≤ length words → v ≡ cleared words → after ≡ set (set (set v′ 0 (getD l′ 2 0)) 1 (getD l′ 4 0)) 2 (q .next)
       → Translates s words after
   translated {words} long e g =
-      record { long = long; tree = t; gets = got; words = g ∙ tabled ∙ ap (λ (w : List ℕ). counted (designDraft t (nothing w))) e ∙ table-drafted s words t got long }
+      record { long = long; tree = t; gets = got; words = g ∙ tabled ∙ ap (λ (w : List ℕ). counted (designDraft t (nothing w))) e ∙ table-drafted s words t got }
