@@ -6,13 +6,13 @@ use mathlib.Core.Logic.{⊎-elim}
 use mathlib.Core.List.{List, [], _∷_, _++_}
 use lib.ListN.{length, getD, set, drop, length-append, length-set, take-append-drop, List·getD-eq-default}
 use lib.Seq.{getD-set-same, getD-set-other, drop-at}
+use Rattle.laws.proofs.Cases.{side}
 use Rattle.words.specs.Token.{Name}
 use Rattle.syntax.specs.Tree.{Design, design}
 use Rattle.syntax.specs.Circuit.{Activity, Circuit}
 use Rattle.rules.specs.Sized.{Listed, idle, Sized}
 use Rattle.table.specs.Table.{tabulate}
 use Rattle.table.specs.Translation.{endsFrom, codeFrom, word, listenersOf, translate}
-use Rattle.table.proofs.Outcomes.{side}
 use Rattle.table.proofs.Tabulated.{length-tabulate, at-tabulate}
 use Rattle.table.proofs.Faithful.{unlisted}
 use Rattle.names.specs.CircuitOf.{circuitOf, declaredNames}
