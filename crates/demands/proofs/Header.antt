@@ -1,7 +1,7 @@
 -- The header of every accepted text fits a buffer of 4,096 bytes: it has at most 64 signals, and no name has more than 32 bytes.
 -- Assumes nothing.
 use Prim.Native.Nat.{ℕ, _≤_}
-use mathlib.Core.Path.{_≡_, subst, sym}
+use mathlib.Core.Path.{subst, sym}
 use mathlib.Core.Bool.{Bool, true, false}
 use mathlib.Core.Option.{Option, none, some}
 use mathlib.Core.List.{List, [], _∷_, _++_}
@@ -9,10 +9,9 @@ use lib.ListN.{length}
 use native.Mathlib.Omega.{arith}
 use Rattle.words.specs.Token.{Name, Fixed, Token}
 use Rattle.lexis.proofs.Names.{ShortNames, short-names}
-use Rattle.syntax.specs.Tree.{Declaration, declaration, Process, Design, design, designText, wordText, nameText, commaText, initialText, declarationsText, processesText}
+use Rattle.syntax.specs.Tree.{Declaration, declaration, Design, design, designText, wordText, nameText, commaText, initialText, declarationsText}
 use Rattle.rules.specs.Sizes.{bufferBytes}
-use Rattle.rules.specs.Sized.{Sized}
-use Rattle.names.specs.CircuitOf.{circuitOf, entityName, signalNames, declaredNames}
+use Rattle.names.specs.CircuitOf.{entityName, signalNames, declaredNames}
 use Rattle.names.specs.Text.{accepts, Gets, faultless}
 use Rattle.names.proofs.Answer.{accepted-sized}
 use Rattle.names.proofs.Sizes.{as-many-signals}

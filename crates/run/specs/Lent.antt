@@ -7,7 +7,7 @@ use lib.ListN.{length}
 use lib.Seq.{sets}
 use Rattle.words.specs.Unit.{longest}
 use Rattle.rules.specs.Sizes.{bufferBytes}
-use Rattle.rules.specs.Calls.{Moved, refused, quiet, stopReached, moved, start, advance}
+use Rattle.rules.specs.Calls.{refused, quiet, stopReached, moved, start, advance}
 use Rattle.rules.specs.Calls as calls
 use Rattle.table.specs.Table.{runners}
 use Rattle.layout.specs.TableWords.{tableSize, FitTableWords}

@@ -1,6 +1,6 @@
 -- The value of a run of digits, one digit after the other.
 -- Assumes nothing.
-use mathlib.Core.Path.{_≡_, refl, sym, ap, _∙_}
+use mathlib.Core.Path.{_≡_, sym, _∙_}
 use mathlib.Core.List.{List, [], _∷_}
 use Prim.Native.Nat.{ℕ, _+_, _*_, _<_, _≤_}
 use native.Mathlib.Omega.{arith}
@@ -10,7 +10,6 @@ use lib.ListN.{length, drop, getD, drop-of-length-le}
 use Rattle.laws.proofs.Lists.{uncons}
 use Rattle.words.specs.Unit.{longest}
 use Rattle.words.specs.Integer.{digitOf, valueFrom, valueOf, amountOf}
-use Rattle.words.specs.declared.integer.Amount.{Amount}
 use Rattle.words.specs.declared.integer.Amount.the-variants.{Small, Large}
 
 grows : (a : ℕ) (s : List ℕ) → a ≤ valueFrom a s
