@@ -1,17 +1,17 @@
 -- Cells that differ only where one signal has its own. Assumes nothing.
-use Prim.Native.Nat.{ℕ, zero, suc, _+_, _*_, _-_, _/_, _%_, _<_, _≤_}
-use mathlib.Core.Path.{_≡_, refl, ap, sym, _∙_}
-use mathlib.Core.List.{List, [], _∷_}
-use mathlib.Core.Bool.{Bool, true, false}
+use Prim.Native.Nat.{ℕ, _+_, _*_, _-_, _<_, _≤_}
+use mathlib.Core.Path.{_≡_, sym, _∙_}
+use mathlib.Core.List.{List, []}
+use mathlib.Core.Bool.{false}
 use native.Mathlib.Omega.{arith}
 use lib.ListN.{length, getD, set}
 use lib.Seq.{ext-getD}
-use Rattle.rules.specs.Pending.{Change, change}
+use Rattle.laws.proofs.Cases.{by}
 use Rattle.rules.specs.Session.{Rising}
 use Rattle.table.specs.Table.{tabulate}
-use Rattle.table.proofs.Tabulated.{length-tabulate}
-use Rattle.cells.specs.Cells.{truth, changeIn, countOf, pendingOf, valueOf, values, pendings, Fit}
-use Rattle.cells.proofs.Tabulating.{by, tabulate-same, tabulate-set, at-tabulated, past-tabulated}
+use Rattle.table.proofs.Tabulated.{length-tabulate, at-tabulated}
+use Rattle.cells.specs.Cells.{changeIn, countOf, pendingOf, valueOf, values, pendings, Fit}
+use Rattle.cells.proofs.Tabulating.{tabulate-same, tabulate-set, past-tabulated}
 
 pub same-change : (cs ds : List ℕ) (y z : ℕ) → getD ds z 0 ≡ getD cs y 0 → changeIn ds z ≡ changeIn cs y
 unfolding changeIn

@@ -1,25 +1,23 @@
 -- What a post and a take keep: the cells fit their signals, and the word says which signals have a change at the time of now.
 -- Assumes nothing.
-use Prim.Native.Nat.{ℕ, zero, suc, _+_, _*_, _-_, _/_, _%_, _^_, _<_, _≤_}
-use mathlib.Core.Path.{_≡_, refl, ap, sym, subst, _∙_}
+use Prim.Native.Nat.{ℕ, zero, _+_, _*_, _-_, _^_, _<_, _≤_}
+use mathlib.Core.Path.{_≡_, refl, ap, sym, _∙_}
 use mathlib.Core.List.{List, [], _∷_, _++_}
-use mathlib.Core.Bool.{Bool, true, false, _||_, or-true, or-false}
+use mathlib.Core.Bool.{Bool, true, false, _||_, or-assoc, or-true, or-false}
 use native.Mathlib.Omega.{arith}
 use lib.Bits.{bitOr, or-lt}
 use lib.Dec.{ltb, eqb}
 use lib.ListN.{length, getD, set}
 use lib.Seq.{getD-set-same, getD-set-other}
-use borrow.Author.Tests.{ltb-true, ltb-false, eq-eqb, ne-eqb}
+use borrow.Author.Tests.{ltb-false, eq-eqb, ne-eqb}
 use Rattle.laws.specs.Pick.{pick}
+use Rattle.laws.proofs.Cases.{split, by}
 use Rattle.rules.specs.Sizes.{mostPending}
-use Rattle.rules.specs.Outcome.{Outcome, refuses, gives}
+use Rattle.rules.specs.Outcome.{refuses, gives}
 use Rattle.rules.specs.Pending.{Change, change, Pending, before, post, dueIn}
-use Rattle.rules.specs.Session.{Each}
 use Rattle.table.specs.Table.{bit}
-use Rattle.table.proofs.Outcomes.{split}
 use Rattle.table.proofs.Changes.{each-before, each-append}
-use Rattle.cells.specs.Cells.{countOf, pendings, FitFor, Posted, Reached, Took, Due}
-use Rattle.cells.proofs.Tabulating.{by}
+use Rattle.cells.specs.Cells.{pendings, FitFor, Posted, Reached, Took, Due}
 use Rattle.cells.proofs.Columns.{length-pendings}
 use Rattle.cells.proofs.Words.{bit-or, bit-same, bit-other, one-below}
 
@@ -48,11 +46,7 @@ module _ (n k : ℕ) (cs ds : List ℕ) (l : k < n) (f : FitFor n cs) where
 due-append : (t : ℕ) (cs : List Change) (c : Change) → dueIn t (cs ++ (c ∷ [])) ≡ (dueIn t cs || eqb (c .time) t)
 unfolding dueIn
 due-append t [] c = or-false (eqb (c .time) t)
-due-append t (d ∷ cs) c = ap (λ (b : Bool). eqb (d .time) t || b) (due-append t cs c) ∙ regroup (eqb (d .time) t) (dueIn t cs) (eqb (c .time) t)
-  where
-    regroup : (a b d : Bool) → (a || (b || d)) ≡ ((a || b) || d)
-    regroup true b d = refl
-    regroup false b d = refl
+due-append t (d ∷ cs) c = ap (λ (b : Bool). eqb (d .time) t || b) (due-append t cs c) ∙ sym (or-assoc (eqb (d .time) t) (dueIn t cs) (eqb (c .time) t))
 
 due-before : (now t : ℕ) → now < t → (cs : List Change) → dueIn now (before t cs) ≡ dueIn now cs
 unfolding dueIn before

@@ -1,8 +1,8 @@
 -- The least pending time, and the word of the signals that have a change then. Assumes nothing.
-use Prim.Native.Nat.{ℕ, zero, suc, _+_, _*_, _-_, _/_, _%_, _^_, _<_, _≤_}
-use mathlib.Core.Path.{_≡_, refl, ap, sym, subst, _∙_}
+use Prim.Native.Nat.{ℕ, zero, suc, _+_, _*_, _-_, _/_, _^_, _<_, _≤_}
+use mathlib.Core.Path.{_≡_, refl, ap, sym, _∙_}
 use mathlib.Core.List.{List, [], _∷_}
-use mathlib.Core.Bool.{Bool, true, false, _||_, or-true, or-false, true≢false}
+use mathlib.Core.Bool.{true, false, _||_, or-true, or-false, true≢false}
 use mathlib.Core.Logic.{⊎-elim}
 use native.Mathlib.Numerals.{add-one}
 use native.Mathlib.Omega.{arith}
@@ -11,17 +11,16 @@ use lib.Count.{trailingZeros}
 use lib.Dec.{eqb}
 use lib.ListN.{length, getD}
 use borrow.Author.Tests.{eq-eqb, eqb-true}
+use Rattle.laws.proofs.Cases.{side, split, by}
 use Rattle.rules.specs.Pending.{Change, change, Pending, dueIn, due, Least, nothing, first, lower, leastIn, least}
 use Rattle.rules.specs.Session.{Each, Rising}
 use Rattle.table.specs.Table.{bit, tabulate}
 use Rattle.table.proofs.Tabulated.{bit-zero}
-use Rattle.table.proofs.Outcomes.{side, split}
 use Rattle.table.proofs.Changes.{each-more}
 use Rattle.table.proofs.Leasts.{none-earlier, something-due}
 use Rattle.cells.specs.Cells.{changeIn, countOf, pendingOf, pendings, Fit, Reached, Due, ComesNext}
 use Rattle.cells.specs.Inside.Moves.{Seen}
 use Rattle.cells.specs.declared.Coming.the-variants.{Nothing, At}
-use Rattle.cells.proofs.Tabulating.{by}
 use Rattle.cells.proofs.Waiting.{due-later, later-first, later-all}
 use Rattle.cells.proofs.Columns.{length-pendings, pending-at, pending-past}
 use Rattle.cells.proofs.Words.{bit-or, bit-same, bit-other, bit-above, one-below, walking-first, walking-next}

@@ -1,6 +1,6 @@
 -- A post over the cells is a post. Assumes nothing.
-use Prim.Native.Nat.{ℕ, zero, suc, _+_, _*_, _-_, _/_, _%_, _<_, _≤_}
-use mathlib.Core.Path.{_≡_, refl, ap, sym, subst, _∙_}
+use Prim.Native.Nat.{ℕ, _+_, _*_, _-_, _/_, _%_, _<_, _≤_}
+use mathlib.Core.Path.{_≡_, refl, ap, sym, _∙_}
 use mathlib.Core.List.{List, [], _∷_, _++_}
 use mathlib.Core.Bool.{Bool, true, false, true≢false}
 use native.Mathlib.Numerals.{add-one}
@@ -9,12 +9,12 @@ use lib.Dec.{ltb}
 use lib.ListN.{length, getD, set, length-set}
 use lib.Seq.{getD-set-same, getD-set-other}
 use borrow.Author.Tests.{lt-ltb, le-ltb, ltb-true, ltb-false}
-use Rattle.rules.specs.Pending.{Change, change, before, post}
+use Rattle.rules.specs.Pending.{change, before, post}
 use Rattle.rules.specs.Session.{Rising}
 use Rattle.table.specs.Table.{tabulate}
 use Rattle.table.proofs.Tabulated.{length-tabulate}
 use Rattle.table.proofs.Changes.{rising-before, rising-append, before-earlier}
-use Rattle.cells.specs.Cells.{truth, changeIn, countOf, pendingOf, pendings, Fit, Posted}
+use Rattle.cells.specs.Cells.{truth, changeIn, countOf, pendingOf, Fit, Posted}
 use Rattle.cells.specs.Inside.Moves.{Cut}
 use Rattle.cells.proofs.Tabulating.{tabulate-more}
 use Rattle.cells.proofs.Waiting.{before-tabulate, rising-at}

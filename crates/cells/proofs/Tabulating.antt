@@ -1,24 +1,13 @@
 -- Tabulated lists: one entry more, one entry changed, and when two are the same. Assumes nothing.
 use Prim.Native.Nat.{ℕ, zero, suc, _+_, _-_, _<_, _≤_}
 use mathlib.Core.Path.{_≡_, refl, ap, sym, _∙_}
-use mathlib.Core.Logic.{_⊎_, inl, inr, ⊎-elim}
-use mathlib.Core.List.{List, [], _∷_, _++_}
-use mathlib.Core.Bool.{Bool, true, false}
+use mathlib.Core.List.{[], _∷_, _++_}
 use native.Mathlib.Omega.{arith}
-use lib.Dec.{eqb}
-use lib.ListN.{length, getD, set, take, drop, length-set, List·getD-eq-default}
+use lib.ListN.{getD, set, length-set, List·getD-eq-default}
 use lib.Seq.{ext-getD, getD-set-same, getD-set-other}
-use borrow.Author.Tests.{eqb-true, eqb-false}
+use Rattle.laws.proofs.Cases.{by}
 use Rattle.table.specs.Table.{tabulate}
-use Rattle.table.proofs.Tabulated.{length-tabulate, at-tabulate}
-
--- two numbers are the same, or not
-same-or : (j k : ℕ) (b : Bool) → eqb j k ≡ b → (j ≡ k) ⊎ (j ≡ k → ⊥)
-same-or j k true e = inl (eqb-true j k e)
-same-or j k false e = inr (eqb-false j k e)
-
-pub by : {A : Type 0} (j k : ℕ) → (j ≡ k → A) → ((j ≡ k → ⊥) → A) → A
-by j k f g = ⊎-elim f g (same-or j k (eqb j k) refl)
+use Rattle.table.proofs.Tabulated.{length-tabulate, at-tabulated}
 
 module _ {A : Type 0} where
   pub tabulate-same : (f g : ℕ → A) (i j n : ℕ) → ((k : ℕ) → k < n → g (j + k) ≡ f (i + k)) → tabulate g j n ≡ tabulate f i n
@@ -32,9 +21,6 @@ module _ {A : Type 0} where
   unfolding tabulate
   tabulate-more f i zero = let e : i + 0 ≡ i = omega arith in rw e
   tabulate-more f i (suc n) = let e : suc i + n ≡ i + suc n = omega arith in rw (tabulate-more f (suc i) n, e)
-
-  pub at-tabulated : (f : ℕ → A) (d : A) (n k : ℕ) → k < n → getD (tabulate f 0 n) k d ≡ f k
-  at-tabulated f d n k l = at-tabulate f d 0 n k l ∙ ap f (omega arith)
 
   pub past-tabulated : (f : ℕ → A) (d : A) (n k : ℕ) → n ≤ k → getD (tabulate f 0 n) k d ≡ d
   past-tabulated f d n k l = List·getD-eq-default (tabulate f 0 n) d (omega (arith, length-tabulate f 0 n))

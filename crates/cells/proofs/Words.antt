@@ -1,17 +1,16 @@
 -- Words as sets of numbers: their bits, one after the other from the lowest. Assumes nothing.
 use Prim.Native.Nat.{ℕ, zero, suc, _+_, _*_, _-_, _/_, _%_, _^_, _<_, _≤_, max}
-use mathlib.Core.Path.{_≡_, refl, ap, sym, subst, _∙_}
-use mathlib.Core.List.{List, [], _∷_}
-use mathlib.Core.Bool.{Bool, true, false, _||_}
-use native.Mathlib.Nat.{mod-eq-of-lt, div-div-eq-div-mul, pow-suc}
+use mathlib.Core.Path.{_≡_, refl, ap, sym, _∙_}
+use mathlib.Core.Bool.{true, false, _||_}
+use native.Mathlib.Nat.{mod-eq-of-lt, div-div-eq-div-mul}
 use native.Mathlib.Omega.{arith}
-use lib.Bits.{bitOr, or-lt, or-step, shifted-half, shifted-even}
-use lib.Count.{trailingZeros, under}
-use lib.Pow.{pow-lt, pow-pos}
+use lib.Bits.{bitOr, or-step, shifted-half, shifted-even}
+use lib.Count.{trailingZeros}
+use lib.Pow.{pow-lt}
+use Rattle.laws.proofs.Cases.{by}
 use Rattle.table.specs.Table.{bit}
 use Rattle.table.proofs.Tabulated.{bit-zero}
 use Rattle.cells.specs.Cells.{truth}
-use Rattle.cells.proofs.Tabulating.{by}
 
 max-bit : (z a b : ℕ) → a ≤ 1 → b ≤ 1 → ((z * 2 + max a b) / 2 ≡ z) × (truth ((z * 2 + max a b) % 2) ≡ (truth a || truth b))
 max-bit z zero zero h g = (omega arith, let e : (z * 2 + 0) % 2 ≡ 0 = omega arith in rw e)

@@ -6,10 +6,10 @@ use mathlib.Core.Path.{_≡_, refl}
 use mathlib.Core.Bool.{Bool, true, false}
 use mathlib.Core.List.{List, [], _∷_}
 use lib.Dec.{eqb}
-use lib.ListN.{length, getD, set}
+use lib.ListN.{length, getD}
 use Rattle.rules.specs.Outcome.{Outcome, refuses, gives}
 use Rattle.rules.specs.Formulas.{Values, differ}
-use Rattle.rules.specs.Pending.{Change, change, Pending, post, taken, kept, dueIn, Least, nothing, first, least}
+use Rattle.rules.specs.Pending.{Change, change, Pending, post, taken, kept, dueIn, nothing, first, least}
 use Rattle.rules.specs.Session.{Each, Rising}
 use Rattle.table.specs.Table.{bit, tabulate}
 use Rattle.cells.specs.declared.Coming.{Coming}

@@ -1,7 +1,7 @@
 // The cells of a session: posts, takes, and what comes next. Everything that a run changes stands in one array.
 ghost use mathlib.Core.Path.{_≡_};
-ghost use mathlib.Core.Bool.{Bool, true, false};
-ghost use Prim.Native.Nat.{ℕ, _+_, _*_, _/_, _%_, _^_, _≤_, _<_};
+ghost use mathlib.Core.Bool.{true, false};
+ghost use Prim.Native.Nat.{ℕ, _+_, _*_, _/_, _^_, _≤_, _<_};
 ghost use lib.ListN.{length, getD};
 ghost use Rattle.cells.specs.Cells.{truth, pendingOf, pendings, Fit, Posted, Reached, Took, ComesNext};
 ghost use Rattle.cells.specs.Inside.Moves.{Cut, Shifted, Seen};

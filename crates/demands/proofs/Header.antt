@@ -1,7 +1,7 @@
 -- The header of every accepted text fits a buffer of 4,096 bytes: it has at most 64 signals, and no name has more than 32 bytes.
 -- Assumes nothing.
 use Prim.Native.Nat.{ℕ, _≤_}
-use mathlib.Core.Path.{_≡_, subst, sym}
+use mathlib.Core.Path.{subst, sym}
 use mathlib.Core.Bool.{Bool, true, false}
 use mathlib.Core.Option.{Option, none, some}
 use mathlib.Core.List.{List, [], _∷_, _++_}
@@ -9,11 +9,10 @@ use lib.ListN.{length}
 use native.Mathlib.Omega.{arith}
 use Rattle.words.specs.Token.{Name, Fixed, Token}
 use Rattle.lexis.proofs.Names.{ShortNames, short-names}
-use Rattle.syntax.specs.Tree.{Declaration, declaration, Process, Design, design, designText, wordText, nameText, commaText, initialText, declarationsText, processesText}
+use Rattle.syntax.specs.Tree.{Declaration, declaration, Design, design, designText, wordText, nameText, commaText, initialText, declarationsText}
 use Rattle.rules.specs.Sizes.{bufferBytes}
-use Rattle.rules.specs.Sized.{Sized}
-use Rattle.names.specs.CircuitOf.{circuitOf, entityName, signalNames, declaredNames}
-use Rattle.names.specs.Text.{accepts, Gets, fits}
+use Rattle.names.specs.CircuitOf.{entityName, signalNames, declaredNames}
+use Rattle.names.specs.Text.{accepts, Gets, faultless}
 use Rattle.names.proofs.Answer.{accepted-sized}
 use Rattle.names.proofs.Sizes.{as-many-signals}
 use Rattle.table.proofs.Written.{Short, header-fits}
@@ -62,7 +61,7 @@ design-short (design e w c a o ds ps w′ c′) h =
     (h .1 .0, declarations-short ds _ (name-rest c _ (word-rest w _ _ (h .1 .1 .1 .1)) .1 .1 .1 .1 .1 .1))
 
 pub accepted-short : (text : List ℕ) (d : Design) → Gets text (accepts d) → ShortDesign d
-accepted-short text d (fits w f) = design-short d (subst ShortNames (sym (w .sentence)) (short-names text))
+accepted-short text d (faultless w f) = design-short d (subst ShortNames (sym (w .sentence)) (short-names text))
 
 pub accepted-header-fits : (text : List ℕ) (d : Design) → Gets text (accepts d) → length (designHeader d) ≤ bufferBytes
 unfolding designHeader

@@ -1,9 +1,8 @@
 -- Every worked case shows what document 01 says: one table, proved at once by computing it from its bytes.
 -- Assumes nothing.
-use Prim.Native.Nat.{ℕ}
 use native.Mathlib.Decide.{decLe}
 use mathlib.Core.Path.{_≡_, refl}
-use mathlib.Core.List.{List, map}
+use mathlib.Core.List.{map}
 use Rattle.laws.specs.Pick.{sameList}
 use Rattle.words.specs.Vocabulary.{subset, others, vocabulary, rowFrom, rowOf, tokenAt, wordToken}
 use Rattle.lexis.specs.Byte.{classOf}

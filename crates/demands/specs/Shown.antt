@@ -1,7 +1,7 @@
 -- What a text does with these stops: its refusal, or its header and what each call shows. Nothing here knows a table.
 -- Assumes nothing: these are definitions.
 use Prim.Native.Nat.{ℕ}
-use mathlib.Core.List.{List, [], _∷_, _++_, map}
+use mathlib.Core.List.{List, map}
 use Rattle.syntax.specs.Tree.{Design}
 use Rattle.rules.specs.Statements.{means}
 use Rattle.rules.specs.Dump.{header}

@@ -1,13 +1,13 @@
 -- Demand 3 about the code: where a text is read, start and advance give over the words read what the rules give on its statements as
 -- written, for the start and for any number of calls after it. Assumes nothing.
 use Prim.Native.Nat.{ℕ, _+_, _≤_}
-use mathlib.Core.Path.{_≡_, refl, sym, ap, subst, _∙_}
-use mathlib.Core.List.{List, [], _∷_, _++_, map}
+use mathlib.Core.Path.{_≡_, sym, subst, _∙_}
+use mathlib.Core.List.{List, [], _∷_}
 use lib.ListN.{length, drop}
-use lib.Seq.{sets, sets-eq}
+use lib.Seq.{sets-eq}
 use native.Mathlib.Omega.{arith}
 use Rattle.syntax.specs.Tree.{Design}
-use Rattle.rules.specs.Sizes.{longest}
+use Rattle.words.specs.Unit.{longest}
 use Rattle.rules.specs.Session.{Session, FitSession}
 use Rattle.rules.specs.Calls.{Moved, refused, quiet, stopReached, moved, start, advance, leaves}
 use Rattle.rules.specs.Calls as calls

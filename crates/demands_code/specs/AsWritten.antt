@@ -1,10 +1,10 @@
 -- What demand 3 says of a lent table and a circuit: whatever start and advance do with the table's words is what the rules give on the
 -- circuit's statements as written. Assumes nothing: these are definitions.
-use Prim.Native.Nat.{ℕ, _+_, _≤_, _<_}
-use mathlib.Core.List.{List, [], map}
+use Prim.Native.Nat.{ℕ, _≤_}
+use mathlib.Core.List.{List, map}
 use lib.ListN.{length}
 use Rattle.syntax.specs.Circuit.{Circuit}
-use Rattle.rules.specs.Sizes.{longest}
+use Rattle.words.specs.Unit.{longest}
 use Rattle.rules.specs.Statements.{means}
 use Rattle.rules.specs.Runner.{Runner}
 use Rattle.rules.specs.Session.{Session, FitSession}

@@ -2,7 +2,7 @@
 -- Assumes nothing: these are definitions.
 use Prim.Native.Nat.{ℕ, _≤_}
 use mathlib.Core.List.{List, [], _∷_}
-use Rattle.rules.specs.Sizes.{longest}
+use Rattle.words.specs.Unit.{longest}
 use Rattle.rules.specs.Runner.{Runner}
 use Rattle.rules.specs.Session.{Session}
 use Rattle.rules.specs.Calls.{refused, quiet, stopReached, moved, advance, leaves}

@@ -6,13 +6,13 @@ use mathlib.Core.Logic.{⊎-elim}
 use mathlib.Core.List.{List, [], _∷_, _++_}
 use lib.ListN.{length, getD, set, drop, length-append, length-set, take-append-drop, List·getD-eq-default}
 use lib.Seq.{getD-set-same, getD-set-other, drop-at}
+use Rattle.laws.proofs.Cases.{side}
 use Rattle.words.specs.Token.{Name}
 use Rattle.syntax.specs.Tree.{Design, design}
 use Rattle.syntax.specs.Circuit.{Activity, Circuit}
 use Rattle.rules.specs.Sized.{Listed, idle, Sized}
 use Rattle.table.specs.Table.{tabulate}
 use Rattle.table.specs.Translation.{endsFrom, codeFrom, word, listenersOf, translate}
-use Rattle.table.proofs.Outcomes.{side}
 use Rattle.table.proofs.Tabulated.{length-tabulate, at-tabulate}
 use Rattle.table.proofs.Faithful.{unlisted}
 use Rattle.names.specs.CircuitOf.{circuitOf, declaredNames}
@@ -109,9 +109,9 @@ module _ (m : Draft) (behind : List ℕ) (c : Circuit) (s : Sized c) (names : Li
   counted-table =
       sym (take-append-drop tableSize (counted m)) ∙ ap₂ (λ xs ys. xs ++ ys) (words-of-table (counted m) (translate c) counted-holds) (counts .after)
 
-pub drafted : (text words : List ℕ) (d : Design) → Gets text (accepts d) → tableSize ≤ length words
+pub drafted : (text words : List ℕ) (d : Design) → Gets text (accepts d)
     → counted (designDraft d (nothing (cleared words))) ≡ tableWords (translate (circuitOf d)) ++ drop tableSize words
-drafted text words (design e w c a o ds ps w′ c′) g _ =
+drafted text words (design e w c a o ds ps w′ c′) g =
     let d = design e w c a o ds ps w′ c′ in
     let s = accepted-sized text d g in
     let m = declarationsDraft ds (nothing (cleared words)) in

@@ -3,35 +3,34 @@
 use Prim.Native.Nat.{ℕ, zero, suc, _+_, _-_, _*_, _<_, _≤_}
 use native.Mathlib.Omega.{arith}
 use mathlib.Core.Path.{_≡_, refl, sym, ap, _∙_}
-use mathlib.Core.Bool.{Bool, true, false}
-use mathlib.Core.Option.{none, some}
-use mathlib.Core.List.{List, [], _∷_, _++_, map}
+use mathlib.Core.Bool.{false}
+use mathlib.Core.Option.{some}
+use mathlib.Core.List.{List, [], _∷_, map}
 use lib.ListN.{length}
-use borrow.Author.Tests.{eq-eqb, ne-eqb}
-use Rattle.laws.specs.Pick.{pick, within}
+use borrow.Author.Tests.{ne-eqb}
+use Rattle.laws.specs.Pick.{within}
 use Rattle.laws.proofs.Ranges.{Ranged, ranged, below, inside, above, within-below, within-above}
-use Rattle.words.specs.Token.{Token, Chain, NOT, OPEN, CLOSE, name, literal, once, chain, fixed}
+use Rattle.words.specs.Token.{Token, Chain, NOT, OPEN, CLOSE, name, literal, chain}
 use Rattle.syntax.specs.Tree.{Design, expression, alone, joined, chained, enough, more, plain, negated, named, constant, bracketed}
-use Rattle.syntax.specs.Sentence.{mostOpen}
-use Rattle.syntax.proofs.Machine.{Values, Step, made, weights}
-use Rattle.syntax.proofs.Rows.{Place, inBrackets, Symbol, Value, rows, next, aPrimary, aFactor, anEnd, anyOnce, anyChain, theChain, theFixed, anExpression as expressionAt, aTail as tailAt, aMore as moreAt}
-use Rattle.syntax.proofs.Nesting.{weight, placeWeight}
+use Rattle.syntax.proofs.Machine.{Values, Step, weights}
+use Rattle.syntax.proofs.Rows.{Place, inBrackets, Symbol, Value, next, aPrimary, aFactor, anEnd, anyOnce, anyChain, theChain, theFixed, anExpression as expressionAt, aTail as tailAt, aMore as moreAt}
+use Rattle.syntax.proofs.Nesting.{weight}
 use Rattle.syntax.proofs.Theorem.{run}
 use Rattle.syntax.proofs.Missing as missing
-use Rattle.names.specs.Roles.{Role, reads, counts, passes, expressionRoles, tailRoles, moreRoles, factorRoles, primaryRoles}
+use Rattle.names.specs.Roles.{reads, counts, factorRoles, primaryRoles}
 use Rattle.names.specs.CircuitOf.{onceOperator, chainOperator}
 use Rattle.table.specs.Instructions.{Instruction}
 use Rattle.layout.specs.TableWords.{operationWord}
 use Rattle.emission.specs.Inside.Draft.{placed, following, binaryKind, put, primaryDraft, factorDraft}
 use Rattle.look.specs.declared.Look.{Look}
 use Rattle.look.specs.Inside.Looks.{part, nameAt, lookOf, tokenOfKind, tokenOfLook, onceOf, chainOf, literalOf}
-use Rattle.look.proofs.Looks.{There, View, there, gone, seen, seen-there}
-use Rattle.look.proofs.Numbers.{fixedKind, chainKind, chain-kind, misfit, once-token, chain-token, literal-token, name-seen, fixed-seen}
+use Rattle.look.proofs.Looks.{seen, seen-there}
+use Rattle.look.proofs.Numbers.{chainKind, chain-kind, misfit, once-token, chain-token, literal-token, name-seen, fixed-seen}
 use Rattle.ledger.specs.Inside.Standing.{Judges, Numbers}
 use Rattle.reading.specs.declared.Spot.{Spot}
 use Rattle.reading.specs.Inside.Spots.{tokensFrom, machine, verdict, drafted, past, unfit, deep, wordOf, addressed}
 use Rattle.reading.specs.Inside.Reading.{What, whole, anExpression, aTail, aMore, Reads}
-use Rattle.reading.proofs.Moves.{off, some-moves, deep-moves, same-moves}
+use Rattle.reading.proofs.Moves.{some-moves, deep-moves, same-moves}
 use Rattle.reading.proofs.Judging.{none-judged, then-judged, token-judged, passes-judged, redrafted, put-judged, put-drafted}
 use Rattle.reading.proofs.Words.{worded}
 use Rattle.reading.proofs.Generic.{reads-stuck, to-address}

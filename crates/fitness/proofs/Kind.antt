@@ -11,6 +11,7 @@ use Rattle.table.specs.Translation.{number}
 use Rattle.table.specs.Fit.{Leads, Ahead, Exists}
 use Rattle.layout.specs.TableWords.{operationWord, delayWord}
 use Rattle.layout.proofs.Columns.{truth}
+use Rattle.layout.proofs.Decoded.{number-truth}
 use Rattle.layout.proofs.InstructionWords.{kinds, instructionOf}
 use Rattle.fitness.specs.Inside.Kinds.{takesOf, leavesOf, Follows, next, jump, Forward, aboutBelow, delayBelow, Legal}
 use Rattle.fitness.specs.Inside.Drivers.{Posts}
@@ -145,18 +146,13 @@ record Words (kind about delay : ℕ) (i : Instruction) : Type 0 where
   operation : operationWord i ≡ kind + 16 * about
   late : delayWord i ≡ delay
 
-value-is : (about : ℕ) → about < 2 → number (truth about) ≡ about
-value-is zero h = refl
-value-is (suc zero) h = refl
-value-is (suc (suc about)) h = absurd (omega arith)
-
 words-are : (kind about delay signals : ℕ) → kind < 12 → about < aboutBelow signals kind → delay < delayBelow kind
     → Words kind about delay (getD (kinds about delay) kind negation)
 unfolding aboutBelow delayBelow
 words-are kind about delay signals l =
     twelve (λ k. about < aboutBelow signals k → delay < delayBelow k → Words k about delay (getD (kinds about delay) k negation))
     (λ a d. record { operation = omega arith; late = omega arith })
-    (λ a d. record { operation = ap (λ b. 1 + 16 * b) (value-is about (omega arith)); late = omega arith })
+    (λ a d. record { operation = ap (λ b. 1 + 16 * b) (number-truth about (omega arith)); late = omega arith })
     (λ a d. record { operation = omega arith; late = omega arith })
     (λ a d. record { operation = omega arith; late = omega arith })
     (λ a d. record { operation = omega arith; late = omega arith })

@@ -1,5 +1,4 @@
 -- Why the tests of fitness decide what they say.
-pub mod Deciding
 pub mod Ranges
 pub mod Reading
 pub mod Kind

@@ -9,13 +9,14 @@ use lib.Dec.{eqb}
 use lib.ListN.{getD, length, drop, replicate, length-replicate, length-drop}
 use lib.Seq.{getD-take, getD-drop, length-take-le}
 use borrow.Author.Tests.{eqb-true, eq-eqb}
+use Rattle.laws.proofs.Cases.{same-or, some}
+use Rattle.laws.proofs.Deciding.{differ}
 use Rattle.table.specs.Instructions.{Instruction, name, literal, negation, binary, assignment, test, skip}
 use Rattle.table.specs.Table.{Table, begins, part, posts}
 use Rattle.table.specs.Fit.{at}
 use Rattle.fitness.specs.Inside.Heights.{PutAs}
 use Rattle.fitness.specs.Inside.Parts.{Rows}
 use Rattle.fitness.specs.Inside.Drivers.{Posts, Drives, Alone, Owned}
-use Rattle.fitness.proofs.Deciding.{differ, same-or, some}
 use Rattle.fitness.proofs.Reading.{rows-climb, row-same}
 use Rattle.fitness.proofs.Kind.{Kind}
 use Rattle.fitness.proofs.Passes.{zero-at}

@@ -10,9 +10,9 @@ use lib.Bits.{bitOr, or-add-and, and-le-l, and-le-r}
 use lib.Dec.{eqb}
 use lib.ListN.{getD}
 use borrow.Author.Tests.{eqb-true, eqb-false}
-use Rattle.fitness.specs.Decides.{Decides}
+use Rattle.laws.specs.Decides.{Decides}
+use Rattle.laws.proofs.Cases.{same-or}
 use Rattle.fitness.specs.Inside.Parts.{Within, Gathered}
-use Rattle.fitness.proofs.Deciding.{same-or}
 
 pub within-more : (w : List ℕ) (from j top : ℕ) → Within w from j top → getD w j 0 ≤ top → Within w from (j + 1) top
 within-more w from j top a h i lo hi = ⊎-elim (λ e. rw e h) (λ n. a i lo (omega arith)) (same-or i j)

@@ -2,28 +2,24 @@
 use Prim.Native.Nat.{ℕ, zero, suc, _+_, _-_, _/_, _%_, _≤_, _<_}
 use native.Mathlib.Omega.{arith}
 use native.Mathlib.Numerals.{add-one}
-use mathlib.Core.Path.{_≡_, sym, _∙_, ap}
+use mathlib.Core.Path.{_≡_, sym, _∙_}
 use mathlib.Core.Logic.{⊎-elim}
 use mathlib.Core.List.{List}
 use lib.Dec.{eqb}
 use lib.ListN.{length, getD}
 use borrow.Author.Tests.{eqb-true, eqb-false}
+use Rattle.laws.proofs.Cases.{side, same-or}
+use Rattle.laws.specs.Decides.{Decides}
 use Rattle.table.specs.Instructions.{negation}
-use Rattle.table.specs.Table.{Table, begins, tabulate}
+use Rattle.table.specs.Table.{Table, begins}
 use Rattle.table.specs.Fit.{at}
-use Rattle.table.proofs.Outcomes.{side}
-use Rattle.table.proofs.Tabulated.{length-tabulate, at-tabulate}
-use Rattle.fitness.specs.Decides.{Decides}
+use Rattle.table.proofs.Tabulated.{length-tabulate, at-tabulated}
 use Rattle.layout.proofs.TableLaws.{instructionAt}
 use Rattle.layout.proofs.Tables.{decodeTable}
 use Rattle.fitness.specs.Inside.Parts.{signals, processes, instructions, Rows, Ready}
-use Rattle.fitness.proofs.Deciding.{same-or}
 use Rattle.fitness.proofs.Kind.{Kind, kind-of}
 
 -- from 0 on
-pub at-place : {A : Type 0} (f : ℕ → A) (d : A) (n k : ℕ) → k < n → getD (tabulate f 0 n) k d ≡ f k
-at-place f d n k l = at-tabulate f d 0 n k l ∙ ap f (omega arith)
-
 module _ (w : List ℕ) where
   pub count-signals : length (decodeTable w .initial) ≡ signals w
   unfolding decodeTable
@@ -43,18 +39,18 @@ module _ (w : List ℕ) where
 
   pub listeners-word : (k : ℕ) → k < signals w → getD (decodeTable w .listeners) k 0 ≡ getD w (67 + k) 0
   unfolding decodeTable
-  listeners-word k l = at-place (λ j. getD w (67 + j) 0) 0 (signals w) k l
+  listeners-word k l = at-tabulated (λ j. getD w (67 + j) 0) 0 (signals w) k l
 
   pub begins-word : (p : ℕ) → p < processes w → begins (decodeTable w) (suc p) ≡ getD w (131 + p) 0
   unfolding decodeTable
-  begins-word p l = at-place (λ j. getD w (131 + j) 0) 0 (processes w) p l
+  begins-word p l = at-tabulated (λ j. getD w (131 + j) 0) 0 (processes w) p l
 
   pub begins-next : (p : ℕ) → p < processes w → getD w (131 + p) 0 ≡ begins (decodeTable w) (p + 1)
   begins-next p l = rw (add-one p) (sym (begins-word p l))
 
   pub code-word : (x : ℕ) → x < instructions w → at (decodeTable w .code) x ≡ instructionAt w x
   unfolding decodeTable
-  code-word x l = at-place (instructionAt w) negation (instructions w) x l
+  code-word x l = at-tabulated (instructionAt w) negation (instructions w) x l
 
 -- ends
 module _ (t : Table) (n m : ℕ) where

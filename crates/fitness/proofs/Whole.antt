@@ -7,13 +7,13 @@ use mathlib.Core.Bool.{true, false}
 use mathlib.Core.Logic.{⊎-elim}
 use mathlib.Core.List.{List}
 use lib.ListN.{length, getD, List·getD-eq-default}
+use Rattle.laws.proofs.Cases.{side}
+use Rattle.laws.proofs.Ranges.{in-part}
 use Rattle.syntax.specs.Circuit.{AND, OR, NAND, NOR, XOR, XNOR}
 use Rattle.table.specs.Instructions.{Instruction, name, literal, negation, binary, assignment, test, skip}
 use Rattle.table.specs.Table.{begins}
 use Rattle.table.specs.Fit.{at, Exists, FitTable}
-use Rattle.table.proofs.Outcomes.{side}
 use Rattle.layout.specs.TableWords.{operationWord, delayWord, FitTableWords}
-use Rattle.layout.proofs.Columns.{in-part}
 use Rattle.layout.proofs.TableLaws.{instructionAt, words-small, operation-at, delay-at}
 use Rattle.layout.proofs.Tables.{decodeTable}
 use Rattle.layout.proofs.Decoded.{PlainTable, plain-table-holds, plain-fit-table, fit-plain-table}

@@ -1,3 +1,2 @@
--- What the answers of the tests of fitness say.
-pub mod Decides
+-- What the tests of the parts of a table say.
 pub mod Inside

@@ -2,8 +2,8 @@
 ghost use mathlib.Core.Path.{_≡_};
 ghost use Prim.Native.Nat.{suc, _<_};
 ghost use lib.ListN.{replicate};
+ghost use Rattle.laws.specs.Decides.{Decides};
 ghost use Rattle.table.specs.Table.{begins};
-ghost use Rattle.fitness.specs.Decides.{Decides};
 ghost use Rattle.layout.proofs.Tables.{decodeTable};
 ghost use Rattle.fitness.specs.Inside.Parts.{processes, instructions, Ready};
 ghost use Rattle.fitness.specs.Inside.Drivers.{Alone, Owned, Drove};

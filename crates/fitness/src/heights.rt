@@ -3,7 +3,7 @@ ghost use mathlib.Core.Path.{_≡_};
 ghost use mathlib.Core.Bool.{true};
 ghost use Prim.Native.Nat.{_≤_, _<_};
 ghost use lib.ListN.{length, getD};
-ghost use Rattle.fitness.specs.Decides.{Decides};
+ghost use Rattle.laws.specs.Decides.{Decides};
 ghost use Rattle.layout.proofs.Tables.{decodeTable};
 ghost use Rattle.fitness.specs.Inside.Parts.{processes, instructions, Ready, Sounds};
 ghost use Rattle.fitness.specs.Inside.Kinds.{Forward};

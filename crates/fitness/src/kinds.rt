@@ -1,7 +1,7 @@
 // Instructions by the numbers of their kinds.
 ghost use mathlib.Core.Path.{_≡_};
 ghost use Prim.Native.Nat.{_<_};
-ghost use Rattle.fitness.specs.Decides.{Decides};
+ghost use Rattle.laws.specs.Decides.{Decides};
 ghost use Rattle.fitness.specs.Inside.Parts.{signals, instructions, Few};
 ghost use Rattle.fitness.specs.Inside.Kinds.{takesOf, leavesOf, aboutBelow, delayBelow, Legal, Legals};
 

@@ -4,8 +4,8 @@ pub mod heights;
 pub mod kinds;
 pub mod parts;
 
+ghost use Rattle.laws.specs.Decides.{Decides};
 ghost use Rattle.layout.specs.TableWords.{FitTableWords};
-ghost use Rattle.fitness.specs.Decides.{Decides};
 use crate::drivers::alone;
 use crate::heights::sounds;
 use crate::kinds::legals;

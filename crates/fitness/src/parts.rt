@@ -2,7 +2,7 @@
 ghost use mathlib.Core.Path.{_≡_};
 ghost use Prim.Native.Nat.{_+_, _^_, _≤_};
 ghost use lib.ListN.{length};
-ghost use Rattle.fitness.specs.Decides.{Decides};
+ghost use Rattle.laws.specs.Decides.{Decides};
 ghost use Rattle.layout.proofs.Tables.{decodeTable};
 ghost use Rattle.fitness.specs.Inside.Parts.{processes, instructions, Within, Few, Rows, Used, Unused};
 

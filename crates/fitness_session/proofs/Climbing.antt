@@ -6,10 +6,10 @@ use mathlib.Core.Bool.{Bool}
 use mathlib.Core.Logic.{_⊎_, inl, inr, ⊎-elim}
 use mathlib.Core.List.{List}
 use lib.ListN.{getD}
-use Rattle.rules.specs.Sizes.{longest}
-use Rattle.fitness.specs.Decides.{Decides}
+use Rattle.laws.specs.Decides.{Decides}
+use Rattle.laws.proofs.Cases.{same-or}
+use Rattle.words.specs.Unit.{longest}
 use Rattle.fitness.specs.Inside.Parts.{Within}
-use Rattle.fitness.proofs.Deciding.{same-or}
 use Rattle.fitness_session.specs.Inside.Parts.{Changes}
 
 abbrev pub timeAt : List ℕ → ℕ → ℕ → ℕ

@@ -5,6 +5,8 @@ use mathlib.Core.Path.{_≡_, refl, sym, subst}
 use mathlib.Core.Bool.{Bool, true, false, _||_}
 use mathlib.Core.List.{List}
 use lib.ListN.{length, getD}
+use Rattle.laws.proofs.Cases.{some}
+use Rattle.laws.proofs.Deciding.{differ}
 use Rattle.rules.specs.Runner.{Runner}
 use Rattle.rules.specs.Session.{driven}
 use Rattle.table.specs.Instructions.{Instruction, name, literal, negation, binary, assignment, test, skip}
@@ -14,7 +16,6 @@ use Rattle.table.proofs.Obedient.{driven-by}
 use Rattle.layout.proofs.Tables.{decodeTable}
 use Rattle.fitness.specs.Inside.Parts.{processes, instructions, Rows}
 use Rattle.fitness.specs.Inside.Drivers.{Posts, Owned}
-use Rattle.fitness.proofs.Deciding.{differ, some}
 use Rattle.fitness.proofs.Reading.{count-processes, count-instructions, rows-low}
 use Rattle.fitness.proofs.Owners.{own-known, drives-posts, posts-drives}
 

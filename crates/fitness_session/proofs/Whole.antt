@@ -7,26 +7,27 @@ use mathlib.Core.Logic.{⊎-elim}
 use mathlib.Core.List.{List, []}
 use lib.ListN.{length, getD, List·getD-eq-default}
 use borrow.Author.Tests.{eq-eqb, ne-eqb}
-use Rattle.rules.specs.Sizes.{longest, mostPending}
+use Rattle.laws.proofs.Cases.{side, same-or}
+use Rattle.laws.specs.Decides.{Decides}
+use Rattle.laws.proofs.Deciding.{differ, one-answer}
+use Rattle.laws.proofs.Ranges.{in-part}
+use Rattle.words.specs.Unit.{longest}
+use Rattle.rules.specs.Sizes.{mostPending}
 use Rattle.rules.specs.Pending.{Change}
 use Rattle.rules.specs.Session.{Session, Each, Rising, driven, FitSession}
 use Rattle.table.specs.Table.{Table, tabulate, runners}
 use Rattle.table.specs.Fit.{FitTable}
-use Rattle.table.proofs.Outcomes.{side}
-use Rattle.table.proofs.Tabulated.{length-tabulate}
+use Rattle.table.proofs.Tabulated.{length-tabulate, at-tabulated}
 use Rattle.layout.specs.TableWords.{HoldsTable, FitTableWords}
 use Rattle.layout.specs.SessionWords.{HoldsSession, FitSessionWords}
-use Rattle.layout.proofs.Columns.{in-part}
 use Rattle.layout.proofs.ChangeWords.{changeOf, none, each-from, rising-from}
 use Rattle.layout.proofs.SessionLaws.{pending-at, value-below, values-unused, changes-unused, count-is, time-most, pending-most, change-later, change-near, changes-rise}
 use Rattle.layout.proofs.Sessions.{changesAt, decodeSession}
 use Rattle.layout.proofs.Tables.{decodeTable, decode-table}
 use Rattle.layout.proofs.Decoded.{PlainSession, plain-fit-session}
-use Rattle.fitness.specs.Decides.{Decides}
 use Rattle.fitness.specs.Inside.Parts.{signals, processes, instructions, Rows}
 use Rattle.fitness.specs.Inside.Drivers.{Owned}
-use Rattle.fitness.proofs.Deciding.{differ, same-or, one-answer}
-use Rattle.fitness.proofs.Reading.{count-signals, at-place}
+use Rattle.fitness.proofs.Reading.{count-signals}
 use Rattle.fitness.proofs.Whole.{zero-part, part-zero}
 use Rattle.fitness_session.specs.Inside.Parts.{Head, mostFor, Signals}
 use Rattle.fitness_session.proofs.Driven.{driven-known, driven-none, driven-exists}
@@ -111,7 +112,7 @@ module _ (w v own : List ℕ) (fits : FitTable (decodeTable w)) (rows : Rows (de
     -- what is pending for signal k, where there is one
     pending-in : (k : ℕ) → k < getD v 0 0 → getD (decodeSession v .pending) k [] ≡ changesAt v k
     unfolding decodeSession
-    pending-in k l = at-place (changesAt v) [] (getD v 0 0) k l
+    pending-in k l = at-tabulated (changesAt v) [] (getD v 0 0) k l
 
     pending-out : (k : ℕ) → getD v 0 0 ≤ k → getD (decodeSession v .pending) k [] ≡ []
     unfolding decodeSession
@@ -131,7 +132,7 @@ module _ (w v own : List ℕ) (fits : FitTable (decodeTable w)) (rows : Rows (de
     change-in : (k j : ℕ) → j < length (changesAt v k) → getD (changesAt v k) j none .time ≡ getD v (130 + 16 * k + j) 0 / 2
     unfolding changeOf
     change-in k j l =
-        ap (λ c. c .time) (at-place (λ i. changeOf (getD v (130 + 16 * k + i) 0)) none (getD v (66 + k) 0) j (omega (arith, length-changes k)))
+        ap (λ c. c .time) (at-tabulated (λ i. changeOf (getD v (130 + 16 * k + i) 0)) none (getD v (66 + k) 0) j (omega (arith, length-changes k)))
 
     count-values : length (decodeSession v .values) ≡ length (decodeTable w .initial)
     unfolding decodeSession

@@ -2,12 +2,12 @@
 ghost use mathlib.Core.Path.{_≡_};
 ghost use Prim.Native.Nat.{_+_, _≤_, _<_};
 ghost use lib.ListN.{length, getD};
-ghost use Rattle.rules.specs.Sizes.{longest};
+ghost use Rattle.laws.specs.Decides.{Decides};
+ghost use Rattle.words.specs.Unit.{longest};
 ghost use Rattle.table.specs.Table.{Table};
 ghost use Rattle.table.specs.Fit.{FitTable};
 ghost use Rattle.layout.specs.TableWords.{HoldsTable, FitTableWords};
 ghost use Rattle.layout.specs.SessionWords.{FitSessionWords};
-ghost use Rattle.fitness.specs.Decides.{Decides};
 ghost use Rattle.fitness_session.specs.Inside.Parts.{Head, Changes, mostFor, Signal, Signals};
 use fitness::drivers::owners;
 use fitness::parts::within;

@@ -8,7 +8,6 @@ use lib.Seq.{sets}
 use Rattle.syntax.specs.Tree.{Design}
 use Rattle.rules.specs.Dump.{header}
 use Rattle.names.specs.CircuitOf.{entityName, signalNames}
-use Rattle.names.specs.Text.{accepts, refuses, Gets}
 use Rattle.names.proofs.Answer.{one-answer}
 use Rattle.heading.specs.declared.Headed.{Headed}
 use Rattle.heading.specs.declared.Headed.the-variants.{Written, Refused}

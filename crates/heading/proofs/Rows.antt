@@ -4,9 +4,8 @@ use Prim.Native.Nat.{ℕ, zero, suc, _+_, _*_, _-_, _<_, _≤_}
 use native.Mathlib.Omega.{arith}
 use native.Mathlib.Numerals.{add-one}
 use mathlib.Core.Path.{_≡_, refl, sym, ap, _∙_, subst}
-use mathlib.Core.List.{List, [], _∷_, _++_, map, append-assoc}
-use lib.ListN.{length, getD, set, take, drop, length-append, length-map}
-use lib.Seq.{sets}
+use mathlib.Core.List.{List, [], _∷_, _++_, append-assoc}
+use lib.ListN.{length, getD, length-append, length-map}
 use Rattle.laws.specs.Text.{bytes}
 use Rattle.words.specs.Token.{Name}
 use Rattle.words.specs.Vocabulary.{lowerOf, lower}
@@ -21,7 +20,6 @@ use Rattle.rules.specs.Sizes.{bufferBytes}
 use Rattle.demands.specs.Shown.{designHeader}
 use Rattle.demands.proofs.Header.{accepted-header-fits}
 use Rattle.look.specs.declared.Look.{Look}
-use Rattle.reading.specs.declared.Spot.{Spot}
 use Rattle.reading.specs.Inside.Spots.{wordOf}
 use Rattle.reader.specs.Inside.Designs.{beginning, Survey, Surveyed, acceptedAs, refusedAs}
 use Rattle.reader.specs.declared.design.Checked.{Checked}

@@ -4,3 +4,5 @@ pub mod Picks
 pub mod Ranges
 pub mod Table
 pub mod Tags
+pub mod Cases
+pub mod Deciding

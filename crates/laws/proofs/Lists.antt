@@ -1,16 +1,16 @@
--- A list from place i on, while a loop walks it; and when two lists of numbers are the same.
+-- A list from place i on, while a loop walks it; a list that a loop copies; and when two lists of numbers are the same.
 -- Assumes nothing.
 use mathlib.Core.Path.{_≡_, refl, sym, ap, _∙_}
 use mathlib.Core.Bool.{Bool, true, false}
-use mathlib.Core.List.{List, [], _∷_}
-use Prim.Native.Nat.{ℕ, suc, _+_, _-_, _<_, _≤_}
+use mathlib.Core.List.{List, [], _∷_, _++_, map}
+use Prim.Native.Nat.{ℕ, zero, suc, _+_, _-_, _<_}
 use native.Mathlib.Numerals.{add-one}
 use native.Mathlib.Nat.{le-refl}
 use native.Mathlib.Omega.{arith}
 use borrow.Author.Tests.{eqb-true, eq-eqb}
 use lib.Dec.{eqb}
-use lib.ListN.{length, drop, take, getD, length-drop}
-use lib.Seq.{drop-cons, take-all}
+use lib.ListN.{length, drop, take, getD, set, length-drop, length-take}
+use lib.Seq.{drop-cons, take-all, take-suc, sets}
 use Rattle.laws.specs.Pick.{pick, sameList}
 
 pub uncons : {A : Type 0} (s : List A) (i : ℕ) (d : A) → i < length s → drop i s ≡ getD s i d ∷ drop (i + 1) s
@@ -35,3 +35,18 @@ same-equal (x ∷ xs) (y ∷ ys) e = go (eqb x y) refl e (same-equal xs ys)
     go : (t : Bool) → eqb x y ≡ t → pick t (sameList xs ys) false ≡ true → (sameList xs ys ≡ true → xs ≡ ys) → x ∷ xs ≡ y ∷ ys
     go true p q f = let h = eqb-true x y p in let t = f q in cc
     go false p q f = let z : _≡_ {A = ℕ} 0 1 = cc in absurd (omega arith)
+
+pub at-map : {A B : Type 0} (f : B → A) (l : List B) (k : ℕ) (b : B) (a : A) → k < length l → getD (map f l) k a ≡ f (getD l k b)
+at-map f [] k b a h = absurd (omega arith)
+at-map f (c ∷ l) zero b a h = refl
+at-map f (c ∷ l) (suc k) b a h = at-map f l k b a (omega arith)
+
+pub sets-append : (l : List ℕ) (i : ℕ) (xs ys : List ℕ) → sets l i (xs ++ ys) ≡ sets (sets l i xs) (i + length xs) ys
+sets-append l i [] ys = ap (λ j. sets l j ys) (omega arith)
+sets-append l i (x ∷ xs) ys = sets-append (set l i x) (suc i) xs ys ∙ ap (λ j. sets (sets (set l i x) (suc i) xs) j ys) (omega arith)
+
+pub copied-more : (out : List ℕ) (at i : ℕ) (text mid : List ℕ) → i < length text → mid ≡ sets out at (take i text)
+    → set mid (at + i) (getD text i 0) ≡ sets out at (take (suc i) text)
+copied-more out at i text mid l e =
+    rw (take-suc text i 0 l, sets-append out at (take i text) (getD text i 0 ∷ []), ← e)
+    (ap (λ j. set mid (at + j) (getD text i 0)) (sym (length-take i text ∙ omega arith)))

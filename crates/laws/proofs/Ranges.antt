@@ -1,8 +1,9 @@
--- The test of a range of numbers, and what it says.
+-- The test of a range of numbers, and what it says; and what holds throughout a range.
 -- Assumes nothing.
-use mathlib.Core.Path.{_≡_, refl}
+use mathlib.Core.Path.{_≡_, refl, subst}
 use mathlib.Core.Bool.{Bool, true, false}
-use Prim.Native.Nat.{ℕ, _<_, _≤_}
+use Prim.Native.Nat.{ℕ, _+_, _-_, _<_, _≤_}
+use native.Mathlib.Omega.{arith}
 use borrow.Author.Tests.{leb-true, leb-false, le-leb, lt-leb}
 use lib.Dec.{leb}
 use Rattle.laws.specs.Pick.{pick, within}
@@ -33,3 +34,9 @@ ranged low high n = go (leb low n) (leb n high) refl refl
     go true true d e = inside (rw (d, e)) (leb-true low n d) (leb-true n high e)
     go true false d e = above (rw (d, e)) (leb-false n high e)
     go false q d e = below (rw d) (leb-false low n d)
+
+-- what holds of each place of a part, counted from its first, holds of each place in it
+pub in-part : (P : ℕ → Type 0) (from size i : ℕ) → ((k : ℕ) → k < size → P (from + k)) → from ≤ i → i < from + size → P i
+in-part P from size i h lo hi =
+    let q : from + (i - from) ≡ i = omega arith in
+    subst P q (h (i - from) (omega arith))

@@ -5,7 +5,7 @@ use mathlib.Core.Path.{_≡_}
 use mathlib.Core.Bool.{Bool, true, false}
 use mathlib.Core.List.{List, [], _∷_}
 use lib.ListN.{length, getD}
-use Rattle.rules.specs.Sizes.{longest}
+use Rattle.words.specs.Unit.{longest}
 use Rattle.rules.specs.Pending.{Change, change}
 use Rattle.rules.specs.Session.{Each, Rising}
 use Rattle.table.specs.Translation.{number}

@@ -1,7 +1,7 @@
 -- Columns of words: what stands in one, what stands behind it, and the list that is read back from one. Assumes nothing.
-use Prim.Native.Nat.{ℕ, _+_, _-_, _≤_, _<_}
+use Prim.Native.Nat.{ℕ, _+_, _-_, _<_}
 use native.Mathlib.Omega.{arith}
-use mathlib.Core.Path.{_≡_, refl, sym, _∙_, ap, subst}
+use mathlib.Core.Path.{_≡_, refl, sym, _∙_, ap}
 use mathlib.Core.Bool.{Bool, true, false}
 use mathlib.Core.List.{List, _++_}
 use lib.Dec.{eqb}
@@ -32,12 +32,6 @@ pub in-column : (words list rest : List ℕ) (from size : ℕ) → Stands words 
     → (k : ℕ) → k < size → getD words (from + k) 0 ≡ getD list k 0
 in-column words list rest from size s k h =
     s k ∙ List·getD-append (column size list) rest 0 k (omega (arith, length-column size list)) ∙ at-column size list k h
-
--- what holds of each place of a part, counted from its first, holds of each place in it
-pub in-part : (P : ℕ → Type 0) (from size i : ℕ) → ((k : ℕ) → k < size → P (from + k)) → from ≤ i → i < from + size → P i
-in-part P from size i h lo hi =
-    let q : from + (i - from) ≡ i = omega arith in
-    subst P q (h (i - from) (omega arith))
 
 -- a list of which each element is read back is read back
 pub read-list : {A : Type 0} (f : ℕ → A) (d : A) (list : List A) (n : ℕ) → n ≡ length list

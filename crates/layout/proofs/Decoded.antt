@@ -7,14 +7,15 @@ use mathlib.Core.Bool.{Bool, false}
 use mathlib.Core.Logic.{⊎-elim}
 use mathlib.Core.List.{List, [], map}
 use lib.ListN.{length, getD, length-map, List·getD-eq-default}
+use Rattle.laws.proofs.Cases.{side}
+use Rattle.laws.proofs.Lists.{at-map}
 use Rattle.rules.specs.Pending.{Change}
 use Rattle.rules.specs.Session.{Session, FitSession}
 use Rattle.table.specs.Instructions.{negation}
 use Rattle.table.specs.Table.{Table, tabulate, runners}
 use Rattle.table.specs.Translation.{number}
 use Rattle.table.specs.Fit.{FitTable}
-use Rattle.table.proofs.Outcomes.{side}
-use Rattle.table.proofs.Tabulated.{length-tabulate, at-tabulate, at-map}
+use Rattle.table.proofs.Tabulated.{length-tabulate, at-tabulate}
 use Rattle.layout.specs.TableWords.{signalsAt, processesAt, instructionsAt, initialFrom, listenersFrom, endsFrom, operationsFrom, delaysFrom, tableSize, operationWord, delayWord, HoldsTable, FitTableWords}
 use Rattle.layout.specs.SessionWords.{countAt, valuesFrom, pendingFrom, changesFrom, sessionSize, changeWord, HoldsSession, FitSessionWords}
 use Rattle.layout.proofs.Columns.{truth}
@@ -24,7 +25,7 @@ use Rattle.layout.proofs.Tables.{decodeTable, table-of-fit-words}
 use Rattle.layout.proofs.SessionLaws.{value-below, values-unused, pending-unused, changes-unused}
 use Rattle.layout.proofs.Sessions.{changesAt, decodeSession, session-of-fit-words}
 
-number-truth : (w : ℕ) → w < 2 → number (truth w) ≡ w
+pub number-truth : (w : ℕ) → w < 2 → number (truth w) ≡ w
 number-truth zero l = refl
 number-truth (suc zero) l = refl
 number-truth (suc (suc w)) l = absurd (omega arith)

@@ -6,14 +6,15 @@ use mathlib.Core.Bool.{false}
 use mathlib.Core.Logic.{⊎-elim}
 use mathlib.Core.List.{List, [], map}
 use lib.ListN.{length, getD, length-map, List·getD-map, List·getD-eq-default}
-use Rattle.rules.specs.Sizes.{longest}
+use Rattle.laws.proofs.Cases.{side}
+use Rattle.laws.proofs.Ranges.{in-part}
+use Rattle.words.specs.Unit.{longest}
 use Rattle.rules.specs.Pending.{Change}
 use Rattle.rules.specs.Runner.{Runner}
 use Rattle.rules.specs.Session.{Session, FitSession}
 use Rattle.table.specs.Translation.{number}
-use Rattle.table.proofs.Outcomes.{side}
 use Rattle.layout.specs.SessionWords.{countAt, timeAt, valuesFrom, pendingFrom, changesFrom, sessionSize, changeWord, HoldsSession}
-use Rattle.layout.proofs.Columns.{in-part, truth, truth-number, number-below}
+use Rattle.layout.proofs.Columns.{truth, truth-number, number-below}
 use Rattle.layout.proofs.ChangeWords.{changeOf, change-of-word, time-of-word, changeWord-below, none, each-at, rising-at}
 
 -- the pending change j of signal k

@@ -12,7 +12,7 @@ use Rattle.words.specs.Token.{Name}
 use Rattle.look.specs.declared.Look.{Look}
 use Rattle.look.proofs.Looks.{There}
 use Rattle.names.specs.Roles.{Role, passes}
-use Rattle.names.specs.Judge.{State, start, Judgement, fine, refused, onward, judge, judged, numberOf, used, undeclared}
+use Rattle.names.specs.Judge.{State, nothingYet, Judgement, fine, refused, onward, judge, judged, numberOf, used, undeclared}
 use Rattle.ledger.specs.Inside.Standing.{Span, namesFrom, usedIn, Standing, Refusing, Keeps, keepsFine, keepsRefused, Sound, Held, Judges, Numbers}
 use Rattle.ledger.proofs.Shelves.{names-length, among-number, number-most}
 
@@ -105,10 +105,10 @@ zeros-length : (n : ℕ) → length (zeros n) ≡ n
 zeros-length zero = refl
 zeros-length (suc n) = ap suc (zeros-length n)
 
-all-zero : (t l : List ℕ) → length l ≡ 328 → ((k : ℕ) → getD l k 0 ≡ 0) → Keeps 0 t l (fine start)
+all-zero : (t l : List ℕ) → length l ≡ 328 → ((k : ℕ) → getD l k 0 ≡ 0) → Keeps 0 t l (fine nothingYet)
 unfolding namesFrom
 all-zero t l e f =
-    keepsFine {y = start} record {
+    keepsFine {y = nothingYet} record {
       clear = f 0;
       signals = rw (f 2) record { size = e; room = omega arith; spans = λ i h. absurd (omega arith) };
       signalsAre = rw (f 2);
@@ -123,7 +123,7 @@ all-zero t l e f =
       drivers = λ k h. rw (f (264 + k)) record { earlierOnes = refl; lastOne = refl; known = omega arith };
     }
 
-pub fresh-keeps : (t : List ℕ) → Keeps 0 t (zeros 328) (fine start)
+pub fresh-keeps : (t : List ℕ) → Keeps 0 t (zeros 328) (fine nothingYet)
 fresh-keeps t = all-zero t (zeros 328) (zeros-length 328) (zeros-at 328)
 
 -- WHAT A STATE IS by the words

@@ -1,7 +1,7 @@
 -- What the words of a ledger stand for after a token of each role.
 -- Assumes nothing.
 use mathlib.Core.Path.{_≡_, refl, sym, ap, _∙_, subst}
-use mathlib.Core.Bool.{Bool, true, false, _||_}
+use mathlib.Core.Bool.{Bool, false, _||_}
 use mathlib.Core.List.{List, [], _∷_, _++_}
 use Prim.Native.Nat.{ℕ, _+_, _*_, _<_, _≤_}
 use native.Mathlib.Omega.{arith}
@@ -16,6 +16,7 @@ use Rattle.words.specs.Token.{Name}
 use Rattle.look.specs.Inside.Looks.{nameAt}
 use Rattle.names.specs.Roles.{labels}
 use Rattle.names.specs.Judge.{State, isAmong, has, declared, labelled, opened, assigned, counted}
+use Rattle.names.proofs.Kept.{has-append}
 use Rattle.ledger.specs.Inside.Standing.{Span, Shelf, namesFrom, added, Driven, Standing}
 use Rattle.ledger.proofs.Shelves.{names-same, shelf-same, among-last, added-size, added-other, added-count, added-names, added-shelf}
 
@@ -132,14 +133,6 @@ counted-stands {t} {l} {y} s k h =
     (λ j g. let d = s .drivers j g in rw (word (264 + j) (λ z. omega arith)) record { earlierOnes = d .earlierOnes; lastOne = d .lastOne; known = d .known })
 
 -- PROCESSES
-
-has-append : (k : ℕ) (xs ys : List ℕ) → has k (xs ++ ys) ≡ (has k xs || has k ys)
-has-append k [] ys = refl
-has-append k (x ∷ xs) ys = rw (has-append k xs ys) (group (eqb x k) (has k xs) (has k ys))
-  where
-    group : (a b c : Bool) → (a || (b || c)) ≡ ((a || b) || c)
-    group true b c = refl
-    group false b c = refl
 
 -- what the last process assigns is assigned by an earlier one as soon as another is opened
 grown : (d p : ℕ) → d ≤ p + 1 → (eqb d (p + 1) || within 1 p d) ≡ within 1 (p + 1) d

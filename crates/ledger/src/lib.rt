@@ -4,8 +4,7 @@ pub mod shelf;
 use crate::shelf::add;
 use crate::shelf::find;
 use crate::shelf::refuse;
-use words::integer::Amount;
-use words::integer::amount_of;
+use words::integer::time_of;
 use words::unit::Delay;
 use words::unit::TimeUnit;
 use words::vocabulary::same_word;
@@ -16,10 +15,9 @@ ghost use Prim.Native.Nat.{ℕ, _<_, _≤_};
 ghost use lib.ListN.{getD};
 ghost use Rattle.laws.specs.Pick.{pick, within, sameList};
 ghost use Rattle.words.specs.Integer.{valueOf};
-ghost use Rattle.words.specs.Unit.{delayOf};
 ghost use Rattle.look.specs.Inside.Looks.{part, nameAt};
 ghost use Rattle.names.specs.Roles.{Role, declares, labels, listens, reads, assigns, belongs, closes, opens, delays, counts};
-ghost use Rattle.names.specs.Judge.{State, start, fine, refused, judge};
+ghost use Rattle.names.specs.Judge.{State, nothingYet, fine, refused, judge};
 ghost use Rattle.ledger.specs.Inside.Standing.{Span, Shelf, Keeps, Sound, Held, Judges, Numbers, Lasts, usedIn, nameOption};
 
 // The words of a ledger: the number of the first refusal (0: none yet) and its place; how many signals, labels, processes and instructions there are;
@@ -44,7 +42,7 @@ const DRIVERS: usize = 264;
 
 // The ledger before the first token.
 pub fn fresh() -> [u64; 328]
-    ensures { λ r. ⌜ ((text : List ℕ) → Keeps 0 text r (fine start)) ⌝ }
+    ensures { λ r. ⌜ ((text : List ℕ) → Keeps 0 text r (fine nothingYet)) ⌝ }
 {
     [0u64; 328]
 }
@@ -253,16 +251,6 @@ pub fn close(text: &[u8], ledger: &mut [u64; 328], from: usize, to: usize, start
     ensures { λ _. ⌜ Judges 0 0 (now (text .entry)) (closes (nameOption (now (text .entry)) from to) (nameAt (now (text .entry)) start end)) start (now (ledger .entry)) (now (ledger .exit)) ⌝ }
 {
     expect(text, ledger, 7, from, to, start, end);
-}
-
-// So many of a unit, in femtoseconds.
-fn time_of(digits: &[u8], unit: TimeUnit) -> Delay
-    ensures { λ r. ⌜ r ≡ delayOf (valueOf (now (digits .entry))) unit ⌝ }
-{
-    match amount_of(digits) {
-        Amount::Small(amount) => unit.femtoseconds(amount),
-        Amount::Large => Delay::TooLong,
-    }
 }
 
 // The integer of a delay in a unit. The answer is the delay in femtoseconds.

@@ -1,7 +1,7 @@
 // Names kept in a ledger by their places in the text: each is two words, where it starts and where it ends.
 use words::vocabulary::same_word;
 ghost use mathlib.Core.Path.{_≡_};
-ghost use Prim.Native.Nat.{_+_, _*_, _<_, _≤_};
+ghost use Prim.Native.Nat.{_+_, _<_, _≤_};
 ghost use lib.ListN.{length, getD, set};
 ghost use Rattle.words.specs.Vocabulary.{sameWord};
 ghost use Rattle.look.specs.Inside.Looks.{part, nameAt};

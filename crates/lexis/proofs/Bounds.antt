@@ -1,6 +1,6 @@
 -- A token lies within its text, and is not empty.
 -- Assumes nothing.
-use mathlib.Core.Path.{_≡_, refl, sym, ap, _∙_, subst}
+use mathlib.Core.Path.{_≡_, refl, subst}
 use mathlib.Core.Bool.{Bool, true, false}
 use mathlib.Core.List.{List, [], _∷_}
 use Prim.Native.Nat.{ℕ, _+_, _-_, _<_, _≤_}
@@ -9,7 +9,6 @@ use native.Mathlib.Nat.{le-refl}
 use borrow.Author.Tests.{eqb-true, eqb-false}
 use lib.Dec.{eqb}
 use lib.ListN.{length, drop, take, getD, length-drop}
-use Rattle.laws.specs.Pick.{pick}
 use Rattle.laws.proofs.Picks.{pick-both}
 use Rattle.lexis.specs.Byte.{classOf, byClass, inRun}
 use Rattle.lexis.specs.Blank.{dashesOf, stepOf, onStep, skipFrom}

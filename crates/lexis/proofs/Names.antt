@@ -1,15 +1,14 @@
 -- Every name of a text has at most 32 bytes.
 -- Assumes nothing.
-use mathlib.Core.Path.{_≡_, refl, sym, ap, _∙_, subst}
+use mathlib.Core.Path.{_≡_, refl, ap, subst}
 use mathlib.Core.Bool.{Bool, true, false}
 use mathlib.Core.List.{List, [], _∷_, map}
-use Prim.Native.Nat.{ℕ, zero, suc, _+_, _<_, _≤_}
+use Prim.Native.Nat.{ℕ, zero, suc, _+_, _≤_}
 use native.Mathlib.Omega.{arith}
 use borrow.Author.Tests.{ltb-false}
 use lib.Dec.{T, eqb, ltb}
 use lib.ListN.{length, drop, take, getD, length-map, length-take}
 use lib.Seq.{length-take-le}
-use Rattle.laws.specs.Pick.{pick}
 use Rattle.laws.specs.Text.{bytes}
 use Rattle.laws.proofs.Picks.{pick-both}
 use Rattle.laws.proofs.Table.{every, first-passes, others-pass}

@@ -1,14 +1,14 @@
 -- One scan after the other over a text: what is made of the text is made of its first token and of the rest.
 -- These laws connect the tokens of a text to the scan of a part of it. Assumes nothing.
-use mathlib.Core.Path.{_≡_, refl, sym, ap, _∙_, subst}
+use mathlib.Core.Path.{_≡_, refl, ap, subst}
 use mathlib.Core.List.{List, [], _∷_}
 use Prim.Native.Nat.{ℕ, zero, suc, _+_, _-_, _<_, _≤_}
 use native.Mathlib.Omega.{arith}
 use native.Mathlib.Nat.{add-assoc}
 use native.Mathlib.Numerals.{add-one}
-use lib.ListN.{length, drop, take, length-drop, drop-of-length-le}
+use lib.ListN.{length, drop, length-drop, drop-of-length-le}
 use lib.Seq.{drop-drop}
-use Rattle.lexis.specs.Token.{Placed, placedToken, tokenOf, scanOf, overText, firstRefused, tokensOf}
+use Rattle.lexis.specs.Token.{Placed, placedToken, scanOf, overText}
 use Rattle.lexis.specs.Blank.{skipFrom}
 use Rattle.lexis.specs.Token.{lexemeOf}
 use Rattle.lexis.specs.declared.token.Kind.{Kind}

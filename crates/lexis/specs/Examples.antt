@@ -1,7 +1,6 @@
 -- Worked examples, computed: case A's tokens with their places, and each rule of 'The text' on both sides.
 -- Assumes nothing.
 use Prim.Native.Nat.{ℕ}
-use Prim.Native.String.{String}
 use mathlib.Core.Path.{_≡_, refl}
 use mathlib.Core.List.{List, [], _∷_, _++_}
 use Rattle.laws.specs.Pick.{sameList}

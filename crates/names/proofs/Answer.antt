@@ -17,8 +17,8 @@ use Rattle.syntax.specs.Tree.{Design, designText}
 use Rattle.syntax.specs.Sentence.{Verdict, accepted, refused3, refused4, Right}
 use Rattle.syntax.proofs.Theorem.{read, read-right, read-exact}
 use Rattle.names.specs.Roles.{Role, designRoles}
-use Rattle.names.specs.Judge.{State, Judgement, fine, refused, start, next, judgedDesign, AppliesFrom, Applies, First, Fits}
-use Rattle.names.specs.Text.{mostBytes, Answer, accepts, refuses, tokens, starts, placeOf, Scanned, Written, Gets, tooLong, notLexical, noSentence, tooDeep, notFit, fits}
+use Rattle.names.specs.Judge.{State, Judgement, fine, refused, nothingYet, next, judgedDesign, AppliesFrom, Applies, First, Faultless}
+use Rattle.names.specs.Text.{mostBytes, Answer, accepts, refuses, tokens, starts, placeOf, Scanned, Written, Gets, tooLong, notLexical, noSentence, tooDeep, faulty, faultless}
 use Rattle.rules.specs.Sized.{Sized}
 use Rattle.names.specs.CircuitOf.{circuitOf}
 use Rattle.names.proofs.Tokens.{as-many}
@@ -64,16 +64,16 @@ module _ (text : List ℕ) where
 
   place-inside : (d : Design) (k n : ℕ) → designText d ≡ tokens text → Applies d k n → getD (starts text) k 0 ≡ placeOf text k
   place-inside d k n e a =
-      let h = applies-inside (designRoles d) start k n a in
+      let h = applies-inside (designRoles d) nothingYet k n a in
       let g = as-many-places d e in
       getD-inside (starts text) k 0 _ (omega arith)
 
   judging : (d : Design) → Written text d → Gets text (afterJudging d (judgedDesign d (starts text)))
-  judging d w = go (judgedDesign d (starts text)) (decides (designRoles d) start (starts text) (omega (arith, as-many-places d (w .sentence))))
+  judging d w = go (judgedDesign d (starts text)) (decides (designRoles d) nothingYet (starts text) (omega (arith, as-many-places d (w .sentence))))
     where
-      go : (j : Judgement) → Decides start (designRoles d) (starts text) j → Gets text (afterJudging d j)
-      go (fine y) (allFine f) = fits w (fine-none (designRoles d) start f)
-      go (refused n p) (firstDue k f) = rw (place-inside d k n (w .sentence) (f .applies)) (notFit k w f)
+      go : (j : Judgement) → Decides nothingYet (designRoles d) (starts text) j → Gets text (afterJudging d j)
+      go (fine y) (allFine f) = faultless w (fine-none (designRoles d) nothingYet f)
+      go (refused n p) (firstDue k f) = rw (place-inside d k n (w .sentence) (f .applies)) (faulty k w f)
 
   reading : Scanned text → (v : Verdict Design) → Right (tokens text) v → Gets text (afterReading text v)
   reading s (accepted d) r = judging d (record { scanned = s; sentence = r .0; shallow = r .1 })
@@ -95,18 +95,18 @@ module _ (text : List ℕ) where
   -- NO OTHER ANSWER IS
 
   judged-refused : (d : Design) (k n : ℕ) → designText d ≡ tokens text → First (Applies d) k n → judgedDesign d (starts text) ≡ refused n (placeOf text k)
-  judged-refused d k n e f = go (judgedDesign d (starts text)) (decides (designRoles d) start (starts text) (omega (arith, as-many-places d e)))
+  judged-refused d k n e f = go (judgedDesign d (starts text)) (decides (designRoles d) nothingYet (starts text) (omega (arith, as-many-places d e)))
     where
-      go : (j : Judgement) → Decides start (designRoles d) (starts text) j → j ≡ refused n (placeOf text k)
-      go (fine y) (allFine g) = absurd (fine-none (designRoles d) start g k n (f .applies))
+      go : (j : Judgement) → Decides nothingYet (designRoles d) (starts text) j → j ≡ refused n (placeOf text k)
+      go (fine y) (allFine g) = absurd (fine-none (designRoles d) nothingYet g k n (f .applies))
       go (refused m p) (firstDue j g) =
           let h = one-first (Applies d) j k m n g f in
           rw (h .0, h .1, place-inside d k n e (f .applies))
 
-  judged-fine : (d : Design) → designText d ≡ tokens text → Fits d → afterJudging d (judgedDesign d (starts text)) ≡ accepts d
-  judged-fine d e f = go (judgedDesign d (starts text)) (decides (designRoles d) start (starts text) (omega (arith, as-many-places d e)))
+  judged-fine : (d : Design) → designText d ≡ tokens text → Faultless d → afterJudging d (judgedDesign d (starts text)) ≡ accepts d
+  judged-fine d e f = go (judgedDesign d (starts text)) (decides (designRoles d) nothingYet (starts text) (omega (arith, as-many-places d e)))
     where
-      go : (j : Judgement) → Decides start (designRoles d) (starts text) j → afterJudging d j ≡ accepts d
+      go : (j : Judgement) → Decides nothingYet (designRoles d) (starts text) j → afterJudging d j ≡ accepts d
       go (fine y) (allFine g) = refl
       go (refused m p) (firstDue k g) = absurd (f k m (g .applies))
 
@@ -124,8 +124,8 @@ module _ (text : List ℕ) where
   only a (notLexical h e) = rw (le-ltb mostBytes (length text) h, e)
   only a (noSentence k s r) = scanned-answer s ∙ ap (afterReading text) (read-exact (tokens text) (refused3 k) .1 r)
   only a (tooDeep k s r) = scanned-answer s ∙ ap (afterReading text) (read-exact (tokens text) (refused4 k) .1 r)
-  only a (notFit {d} k {number} w f) = written-answer d w ∙ ap (afterJudging d) (judged-refused d k number (w .sentence) f)
-  only a (fits {d} w f) = written-answer d w ∙ judged-fine d (w .sentence) f
+  only a (faulty {d} k {number} w f) = written-answer d w ∙ ap (afterJudging d) (judged-refused d k number (w .sentence) f)
+  only a (faultless {d} w f) = written-answer d w ∙ judged-fine d (w .sentence) f
 
   -- THE THEOREM: an answer is given exactly where it is due, so there is one and only one
   pub answers : (a : Answer) → (answerTo text ≡ a) ↔ Gets text a
@@ -136,4 +136,4 @@ module _ (text : List ℕ) where
 
   -- what the translation leans on: the circuit of an accepted text keeps the sizes
   pub accepted-sized : (d : Design) → Gets text (accepts d) → Sized (circuitOf d)
-  accepted-sized d (fits w f) = sized d f (w .shallow)
+  accepted-sized d (faultless w f) = sized d f (w .shallow)

@@ -17,7 +17,7 @@ use Rattle.rules.specs.Sizes.{mostSignals, mostProcesses, mostInstructions}
 use Rattle.rules.specs.Statements
 use Rattle.rules.specs.Sized.{total, Keeps, Listed, idle, Sized}
 use Rattle.names.specs.Roles.{Role, declares, labels, listens, reads, assigns, belongs, closes, opens, delays, counts, passes, designRoles, declarationsRoles, processesRoles, wordRoles, closingRoles}
-use Rattle.names.specs.Judge.{State, has, faults, next, start, Fits}
+use Rattle.names.specs.Judge.{State, has, faults, next, nothingYet, Faultless}
 use Rattle.names.specs.CircuitOf.{activitiesOf, declaredNames, declaredValues, eachValue, startingValue, circuitOf, signalNames}
 use Rattle.names.proofs.Verdict.{Clear, Fine, afterAll, none-fine, differ}
 use Rattle.names.proofs.Kept.{Leads, Free, collect, AllKeep, ApartFrom, processesKept, declarationsKept, wordKept, closingKept, has-append, has-collect}
@@ -134,14 +134,14 @@ as-many-activities ns (p ∷ ps) = ap suc (as-many-activities ns ps)
 ended : (z y : State) (w : Bool) (o c : Option Name) → Leads z y (passes ∷ wordRoles w (closingRoles o c (passes ∷ []))) → y ≡ z
 ended z y w o c l = closingKept z [] o c y (passes ∷ []) (wordKept z [] w y (closingRoles o c (passes ∷ [])) (l .1)) .1
 
-leads-judged : (d : Design) (z : State) → nest d ≤ mostOpen → Leads z start (designRoles d) → Judged d z
+leads-judged : (d : Design) (z : State) → nest d ≤ mostOpen → Leads z nothingYet (designRoles d) → Judged d z
 leads-judged (design e w c a o ds ps w′ c′) z n l =
     let ns = declaredNames ds in
     let last = passes ∷ wordRoles w′ (closingRoles (some a) c′ (passes ∷ [])) in
     let main = passes ∷ processesRoles ps last in
     let head = passes ∷ passes ∷ passes ∷ passes ∷ belongs e o ∷ passes ∷ declarationsRoles ds main in
-    let l₁ = wordKept z [] w start (closingRoles (some e) c head) (l .1 .1 .1 .1) in
-    let l₂ = closingKept z [] (some e) c start head l₁ in
+    let l₁ = wordKept z [] w nothingYet (closingRoles (some e) c head) (l .1 .1 .1 .1) in
+    let l₂ = closingKept z [] (some e) c nothingYet head l₁ in
     let l₃ = declarationsKept z ds [] main (l₂ .1 .1 .1 .1 .1 .1) in
     let k = processesKept z ns ps [] 0 (length ps) [] [] 0 (total (activitiesOf ns ps)) last n (omega arith) (omega arith) (l₃ .1) in
     let q = ended z (k .2 .state) w′ (some a) c′ (k .2 .leads) in
@@ -153,12 +153,12 @@ leads-judged (design e w c a o ds ps w′ c′) z n l =
       apart = k .1;
     }
 
-pub fits-judged : (d : Design) → Fits d → nest d ≤ mostOpen → Judged d (afterAll start (designRoles d))
-fits-judged d f n = leads-judged d (afterAll start (designRoles d)) n (fine-leads (designRoles d) start (none-fine (designRoles d) start f))
+pub faultless-judged : (d : Design) → Faultless d → nest d ≤ mostOpen → Judged d (afterAll nothingYet (designRoles d))
+faultless-judged d f n = leads-judged d (afterAll nothingYet (designRoles d)) n (fine-leads (designRoles d) nothingYet (none-fine (designRoles d) nothingYet f))
 
 -- the fold counts the instructions of the circuit
-pub counts-instructions : (d : Design) → Fits d → nest d ≤ mostOpen → afterAll start (designRoles d) .instructions ≡ total (circuitOf d .processes)
-counts-instructions d f n = fits-judged d f n .counted
+pub counts-instructions : (d : Design) → Faultless d → nest d ≤ mostOpen → afterAll nothingYet (designRoles d) .instructions ≡ total (circuitOf d .processes)
+counts-instructions d f n = faultless-judged d f n .counted
 
 -- a signal has a name and a starting value
 pub as-many-values : (b : Bool) (ns : List Name) → length (eachValue b ns) ≡ length ns
@@ -180,10 +180,10 @@ pub as-many-signals : (d : Design) → length (circuitOf d .initial) ≡ length 
 as-many-signals (design e w c a o ds ps w′ c′) = as-many-declared ds
 
 -- the circuit of an accepted design keeps the sizes
-pub sized : (d : Design) → Fits d → nest d ≤ mostOpen → Sized (circuitOf d)
+pub sized : (d : Design) → Faultless d → nest d ≤ mostOpen → Sized (circuitOf d)
 sized d f n =
-    let j = fits-judged d f n in
-    let b = bounded (designRoles d) start (none-fine (designRoles d) start f) (record { signals = omega arith; processes = omega arith; instructions = omega arith }) in
+    let j = faultless-judged d f n in
+    let b = bounded (designRoles d) nothingYet (none-fine (designRoles d) nothingYet f) (record { signals = omega arith; processes = omega arith; instructions = omega arith }) in
     let parts = rw (← (as-many-signals d)) at (j .parts) in
     record {
       fewSignals = rw (as-many-signals d, ← (j .names)) (b .signals);

@@ -48,8 +48,9 @@ pub record State : Type 0 where
   pub current : List ℕ
   pub instructions : ℕ
 
-abbrev pub start : State
-start = record { signalNames = []; labelNames = []; processes = 0; earlier = []; current = []; instructions = 0 }
+-- before the first token
+abbrev pub nothingYet : State
+nothingYet = record { signalNames = []; labelNames = []; processes = 0; earlier = []; current = []; instructions = 0 }
 
 abbrev pub declared : Name → State → State
 declared n y =
@@ -170,7 +171,7 @@ judged y (r ∷ rs) (p ∷ ps) = onward (judge y r p) (λ z. judged z rs ps)
 
 -- a design whose tokens start at the places ps
 abbrev pub judgedDesign : Design → List ℕ → Judgement
-judgedDesign d ps = judged start (designRoles d) ps
+judgedDesign d ps = judged nothingYet (designRoles d) ps
 
 -- THE SENTENCES: what the fold is said to decide
 
@@ -185,7 +186,7 @@ AppliesFrom y (r ∷ rs) zero n = Holds n (faults y r)
 AppliesFrom y (r ∷ rs) (suc k) n = AppliesFrom (next y r) rs k n
 
 abbrev pub Applies : Design → ℕ → ℕ → Type 0
-Applies d k n = AppliesFrom start (designRoles d) k n
+Applies d k n = AppliesFrom nothingYet (designRoles d) k n
 
 -- at token k and no earlier one something applies, and the lowest that applies there is n
 pub record First (Applying : ℕ → ℕ → Type 0) (k n : ℕ) : Type 0 where
@@ -194,5 +195,5 @@ pub record First (Applying : ℕ → ℕ → Type 0) (k n : ℕ) : Type 0 where
   pub earlierNot : (j m : ℕ) → j < k → ¬ Applying j m
 
 -- none of refusals 5 to 10 applies anywhere
-abbrev pub Fits : Design → Type 0
-Fits d = (k n : ℕ) → ¬ Applies d k n
+abbrev pub Faultless : Design → Type 0
+Faultless d = (k n : ℕ) → ¬ Applies d k n

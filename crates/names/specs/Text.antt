@@ -9,7 +9,7 @@ use Rattle.lexis.specs.declared.token.Refusal.the-variants.{At, Nowhere}
 use Rattle.lexis.specs.Token.{tokensOf, firstRefused}
 use Rattle.syntax.specs.Tree.{Design, designText}
 use Rattle.syntax.specs.Sentence.{nest, mostOpen, Refused3, Refused4}
-use Rattle.names.specs.Judge.{Applies, First, Fits}
+use Rattle.names.specs.Judge.{Applies, First, Faultless}
 
 abbrev pub mostBytes : ℕ
 mostBytes = 60000
@@ -46,5 +46,5 @@ pub data Gets (text : List ℕ) : Answer → Type 0 where
   noSentence : (k : ℕ) → Scanned text → Refused3 (tokens text) k → Gets text (refuses 3 (placeOf text k))
   tooDeep : (k : ℕ) → Scanned text → Refused4 (tokens text) k → Gets text (refuses 4 (placeOf text k))
   -- 5 to 10
-  notFit : {d : Design} (k : ℕ) {number : ℕ} → Written text d → First (Applies d) k number → Gets text (refuses number (placeOf text k))
-  fits : {d : Design} → Written text d → Fits d → Gets text (accepts d)
+  faulty : {d : Design} (k : ℕ) {number : ℕ} → Written text d → First (Applies d) k number → Gets text (refuses number (placeOf text k))
+  faultless : {d : Design} → Written text d → Faultless d → Gets text (accepts d)

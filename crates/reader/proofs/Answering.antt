@@ -15,12 +15,12 @@ use Rattle.syntax.proofs.Rows.{aDesign}
 use Rattle.syntax.proofs.Theorem.{read}
 use Rattle.names.specs.Roles.{Role, designRoles}
 use Rattle.names.specs.CircuitOf.{signalNames}
-use Rattle.names.specs.Judge.{State, start, Judgement, fine, refused, onward, lowest, faults, next, judge, judged, judgedDesign}
-use Rattle.names.specs.Text.{mostBytes, accepts, refuses, tokens, starts, placeOf, Scanned, Gets, fits}
+use Rattle.names.specs.Judge.{State, nothingYet, Judgement, fine, refused, onward, lowest, faults, next, judge, judged, judgedDesign}
+use Rattle.names.specs.Text.{mostBytes, accepts, refuses, tokens, starts, placeOf, Scanned, Gets, faultless}
 use Rattle.names.proofs.Answer.{answerTo, gets}
 use Rattle.names.proofs.Verdict.{afterAll}
 use Rattle.names.proofs.Tokens.{as-many}
-use Rattle.names.proofs.Sizes.{fits-judged}
+use Rattle.names.proofs.Sizes.{faultless-judged}
 use Rattle.emission.specs.Inside.Draft.{designDraft, nothing}
 use Rattle.ledger.specs.Inside.Standing.{Keeps, keepsFine}
 use Rattle.ledger.proofs.Keeping.{kept-fine, kept-refused}
@@ -66,12 +66,12 @@ judged-state (r ∷ rs) y (p ∷ ps) z h e = go (judge y r p) refl e (λ x. judg
     go (refused n q) g e ih = let o : _≡_ {A = ℕ} 0 1 = cc in absurd (omega arith)
 
 places-enough : (s : List ℕ) (d : Design) → Gets s (accepts d) → length (designRoles d) ≤ length (starts s)
-places-enough s d (fits w f) =
+places-enough s d (faultless w f) =
     let e = as-many d ∙ ap length (w .sentence) ∙ length-map (tokensOf s) (λ p. p .token) ∙ sym (length-map (tokensOf s) (λ p. p .start)) in
     omega arith
 
-all-names : (s : List ℕ) (d : Design) → Gets s (accepts d) → afterAll start (designRoles d) .signalNames ≡ signalNames d
-all-names s d (fits w f) = fits-judged d f (w .shallow) .names
+all-names : (s : List ℕ) (d : Design) → Gets s (accepts d) → afterAll nothingYet (designRoles d) .signalNames ≡ signalNames d
+all-names s d (faultless w f) = faultless-judged d f (w .shallow) .names
 
 module _ (s : List ℕ) (scanned : Scanned s) where
   -- the machine from the start of the text is the reader of its tokens
@@ -113,17 +113,17 @@ module _ (s : List ℕ) (scanned : Scanned s) where
       read-accepts = placed-accepted (length s) (starts s) (read (tokens s)) tree (sym from-start ∙ d .moves ∙ rw (eq-eqb (q .number) 0 f, d .ends f))
 
       -- what the judge says of the whole text is what the ledger keeps
-      pub judged-all : d .judges f .after (fine start) ≡ judgedDesign tree (starts s)
+      pub judged-all : d .judges f .after (fine nothingYet) ≡ judgedDesign tree (starts s)
       unfolding judgement judged tokensOf
-      judged-all = sym (onward-fine (d .judges f .after (fine start))) ∙ sym (d .judges f .folds (fine start) [])
+      judged-all = sym (onward-fine (d .judges f .after (fine nothingYet))) ∙ sym (d .judges f .folds (fine nothingYet) [])
 
       refused-answer : {n p : ℕ} → judgedDesign tree (starts s) ≡ refused n p → answerTo s ≡ refuses n p
       unfolding answerTo
       refused-answer j = rw (le-ltb mostBytes (length s) (scanned .short), scanned .lexical, read-accepts, j)
 
-      module _ (k : Keeps 0 s l (fine start)) where
+      module _ (k : Keeps 0 s l (fine nothingYet)) where
         pub keeps-all : Keeps 0 s l′ (judgedDesign tree (starts s))
-        keeps-all = subst (Keeps 0 s l′) judged-all (d .judges f .keeps (fine start) k)
+        keeps-all = subst (Keeps 0 s l′) judged-all (d .judges f .keeps (fine nothingYet) k)
 
         pub answer-judged : (getD l′ 0 0 ≡ 0 → ⊥) → Surveyed s (Refused (getD l′ 0 0) (getD l′ 1 0)) l′
         answer-judged g = refusedAs (subst (Gets s) (refused-answer (kept-refused keeps-all g)) (gets s))
@@ -139,7 +139,7 @@ module _ (s : List ℕ) (scanned : Scanned s) where
 
         -- what is written of the table
         pub words-written : (g : getD l′ 0 0 ≡ 0) → designDraft tree (nothing v) ≡ drafted (kept-fine keeps-all g .0 .state) v′ (q .next)
-        words-written g = let j = kept-fine keeps-all g in d .judges f .writes start (j .0 .state) k (judged-all ∙ j .1)
+        words-written g = let j = kept-fine keeps-all g in d .judges f .writes nothingYet (j .0 .state) k (judged-all ∙ j .1)
 
         pub answer-accepted : getD l′ 0 0 ≡ 0 → Surveyed s Accepted l′
         answer-accepted g =
@@ -150,7 +150,7 @@ module _ (s : List ℕ) (scanned : Scanned s) where
               gets = got;
               state = j .0 .state;
               keeps = keepsFine (j .0 .stands);
-              names = ap (λ (y : State). y .signalNames) (judged-state (designRoles tree) start (starts s) (j .0 .state) (places-enough s tree got) (j .1)) ∙ all-names s tree got;
+              names = ap (λ (y : State). y .signalNames) (judged-state (designRoles tree) nothingYet (starts s) (j .0 .state) (places-enough s tree got) (j .1)) ∙ all-names s tree got;
               named = d .named;
             }
 

@@ -6,8 +6,8 @@ use mathlib.Core.Path.{_≡_, refl, subst}
 use mathlib.Core.Logic.{_↔_}
 use mathlib.Core.List.{List}
 use Rattle.syntax.specs.Tree.{Design}
-use Rattle.names.specs.Judge.{Fits}
-use Rattle.names.specs.Text.{accepts, refuses, Written, Gets, fits}
+use Rattle.names.specs.Judge.{Faultless}
+use Rattle.names.specs.Text.{accepts, refuses, Written, Gets, faultless}
 use Rattle.names.proofs.Answer.{one-answer}
 use Rattle.reader.specs.declared.design.Checked.{Checked}
 use Rattle.reader.specs.declared.design.Checked.the-variants.{Accepted, Refused}
@@ -25,11 +25,11 @@ module _ (text : List ℕ) where
   one-outcome (Refused n p) (Refused m q) a b = let e = one-answer text _ _ a b in let x : n ≡ m = cc in let y : p ≡ q = cc in cc
 
   -- DEMAND 2
-  pub accepted-exactly : (r : Checked) → Answers text r → (r ≡ Accepted) ↔ ((d : Design) × Written text d × Fits d)
-  accepted-exactly r a = (λ e. there (subst (Answers text) e a), λ w. one-outcome r Accepted a (w .0, fits (w .1) (w .2)))
+  pub accepted-exactly : (r : Checked) → Answers text r → (r ≡ Accepted) ↔ ((d : Design) × Written text d × Faultless d)
+  accepted-exactly r a = (λ e. there (subst (Answers text) e a), λ w. one-outcome r Accepted a (w .0, faultless (w .1) (w .2)))
     where
-      there : Answers text Accepted → (d : Design) × Written text d × Fits d
-      there (d, fits w f) = (d, w, f)
+      there : Answers text Accepted → (d : Design) × Written text d × Faultless d
+      there (d, faultless w f) = (d, w, f)
 
   pub refused-exactly : (r : Checked) → Answers text r → (number place : ℕ) → (r ≡ Refused number place) ↔ Gets text (refuses number place)
   refused-exactly r a number place = (λ e. subst (Answers text) e a, λ g. one-outcome r (Refused number place) a g)

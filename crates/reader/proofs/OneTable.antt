@@ -9,8 +9,8 @@ use lib.ListN.{length, drop}
 use Rattle.syntax.specs.Tree.{Design}
 use Rattle.table.specs.Translation.{translate}
 use Rattle.names.specs.CircuitOf.{circuitOf}
-use Rattle.names.specs.Judge.{Fits}
-use Rattle.names.specs.Text.{accepts, Written as TextOf, Gets, fits}
+use Rattle.names.specs.Judge.{Faultless}
+use Rattle.names.specs.Text.{accepts, Written as TextOf, Gets, faultless}
 use Rattle.names.proofs.Answer.{one-answer}
 use Rattle.layout.specs.TableWords.{tableSize, tableWords}
 use Rattle.reader.specs.declared.Tabled.{Tabled}
@@ -42,17 +42,17 @@ module _ (text table : List ℕ) where
   one-outcome (Refused n p) (Refused m q) a b x y = (same-refusal (x .0) (y .0), x .1 ∙ sym (y .1))
 
   -- DEMAND 2
-  pub written-exactly : (r : Tabled) (after : List ℕ) → Tables text table r after → (r ≡ Written) ↔ ((tableSize ≤ length table) × ((d : Design) × TextOf text d × Fits d))
+  pub written-exactly : (r : Tabled) (after : List ℕ) → Tables text table r after → (r ≡ Written) ↔ ((tableSize ≤ length table) × ((d : Design) × TextOf text d × Faultless d))
   written-exactly r after a = (λ e. there (subst (λ (x : Tabled). Tables text table x after) e a), λ w. one-outcome r Written after _ a (back w) .0)
     where
-      there : Translates text table after → (tableSize ≤ length table) × ((d : Design) × TextOf text d × Fits d)
+      there : Translates text table after → (tableSize ≤ length table) × ((d : Design) × TextOf text d × Faultless d)
       there s = (s .long, of-text (s .gets))
         where
-          of-text : {d : Design} → Gets text (accepts d) → (d : Design) × TextOf text d × Fits d
-          of-text {d} (fits w f) = (d, w, f)
+          of-text : {d : Design} → Gets text (accepts d) → (d : Design) × TextOf text d × Faultless d
+          of-text {d} (faultless w f) = (d, w, f)
 
-      back : (w : (tableSize ≤ length table) × ((d : Design) × TextOf text d × Fits d)) → Translates text table (tableWords (translate (circuitOf (w .1 .0))) ++ drop tableSize table)
-      back w = record { long = w .0; tree = w .1 .0; gets = fits (w .1 .1) (w .1 .2); words = refl }
+      back : (w : (tableSize ≤ length table) × ((d : Design) × TextOf text d × Faultless d)) → Translates text table (tableWords (translate (circuitOf (w .1 .0))) ++ drop tableSize table)
+      back w = record { long = w .0; tree = w .1 .0; gets = faultless (w .1 .1) (w .1 .2); words = refl }
 
   pub refused-exactly : (r : Tabled) (after : List ℕ) → Tables text table r after → (number place : ℕ) → (r ≡ Refused number place) ↔ RefusedWith text table number place
   refused-exactly r after a number place = (λ e. subst (λ (x : Tabled). Tables text table x after) e a .0, λ g. one-outcome r (Refused number place) after table a (g, refl) .0)

@@ -21,7 +21,7 @@ ghost use Rattle.syntax.proofs.Rows.{Part, aName, partWord, closing as closingP
 ghost use Rattle.look.specs.Inside.Looks.{nameAt};
 ghost use Rattle.look.proofs.Numbers.{fixedKind};
 ghost use Rattle.ledger.specs.Inside.Standing.{Sound, Keeps, Span, nameOption};
-ghost use Rattle.names.specs.Judge.{fine, start};
+ghost use Rattle.names.specs.Judge.{fine, nothingYet};
 ghost use Rattle.names.specs.Text.{Scanned};
 ghost use Rattle.reader.specs.Answers.{Answers};
 ghost use Rattle.reading.specs.Inside.Reading.{Ready, Reads, whole, belongsRoles, closingPartRoles, silent};
@@ -148,7 +148,7 @@ pub enum Checked {
 
 // A text that neither 1 nor 2 refuses, over a fresh ledger.
 fn judged(text: &[u8], ledger: &mut [u64; 328], table: &mut [u64]) -> Checked
-    requires { ⌜ Scanned (now text) × Keeps 0 (now text) (now ledger) (fine start) ⌝ }
+    requires { ⌜ Scanned (now text) × Keeps 0 (now text) (now ledger) (fine nothingYet) ⌝ }
     ensures { λ r. ⌜ Surveyed (now (text .entry)) r (now (ledger .exit)) ⌝ }
 {
     let q = design(text, ledger, table);
@@ -175,7 +175,7 @@ fn judged(text: &[u8], ledger: &mut [u64; 328], table: &mut [u64]) -> Checked
 
 // Refusals 1 to 10 of any bytes, over a fresh ledger, which has the names of the signals where none applies.
 pub fn survey(text: &[u8], ledger: &mut [u64; 328], table: &mut [u64]) -> Checked
-    requires { ⌜ Keeps 0 (now text) (now ledger) (fine start) ⌝ }
+    requires { ⌜ Keeps 0 (now text) (now ledger) (fine nothingYet) ⌝ }
     ensures { λ r. ⌜ Surveyed (now (text .entry)) r (now (ledger .exit)) ⌝ }
 {
     if 60000 < text.len() {

@@ -2,8 +2,8 @@
 -- Assumes nothing.
 use Prim.Native.Nat.{ℕ, _+_, _<_, _≤_}
 use native.Mathlib.Omega.{arith}
-use mathlib.Core.Path.{_≡_, refl, sym, ap, _∙_}
-use mathlib.Core.Bool.{Bool, true, false}
+use mathlib.Core.Path.{_≡_, refl}
+use mathlib.Core.Bool.{false}
 use mathlib.Core.Option.{none}
 use mathlib.Core.List.{List, [], _∷_, _++_}
 use lib.ListN.{length}
@@ -15,12 +15,12 @@ use Rattle.syntax.proofs.Laws.{fill, fill-closing}
 use Rattle.names.specs.Roles.{Role}
 use Rattle.look.specs.declared.Look.{Look}
 use Rattle.look.specs.Inside.Looks.{part, lookOf}
-use Rattle.look.proofs.Looks.{There, View, there, gone, seen, seen-there}
+use Rattle.look.proofs.Looks.{View, there, gone, seen, seen-there}
 use Rattle.look.proofs.Numbers.{fixedKind, takenBy}
-use Rattle.ledger.specs.Inside.Standing.{Span, Sound, Held, Judges}
+use Rattle.ledger.specs.Inside.Standing.{Span, Judges}
 use Rattle.reading.specs.declared.Spot.{Spot}
-use Rattle.reading.specs.Inside.Spots.{verdict, Judged, past, unfit, wordOf, addressed}
-use Rattle.reading.specs.Inside.Reading.{What, whole, anExpression, aTail, aStatement, someStatements, aList, aMore, aProcess, given, closes, Tree, Context, top, step, roles, Ready, Reads, Named}
+use Rattle.reading.specs.Inside.Spots.{verdict, past, unfit, wordOf, addressed}
+use Rattle.reading.specs.Inside.Reading.{What, whole, anExpression, aTail, aStatement, someStatements, aList, aMore, aProcess, given, closes, Tree, Context, top, step, Ready, Reads, Named}
 use Rattle.reading.proofs.Moves.{off, stuck-moves}
 use Rattle.reading.proofs.Words.{worded}
 
@@ -80,9 +80,6 @@ to-address s q n ss k = refl
 
 pub span : {s : List ℕ} {at : ℕ} {t : Look} → at ≤ length s → t ≡ lookOf s at → (t .kind ≡ 117 → ⊥) → Span s (t .start) (t .end)
 span h e g = let x = seen-there h e g in record { rising = omega (arith, x .some); inside = x .inside }
-
-pub held : {u : ℕ} {s l : List ℕ} → Sound u s l → Held u l
-held {s = s} d = record { text = s; sound = d }
 
 module _ {u : ℕ} {s : List ℕ} {p : Spot} {l : List ℕ} (r : Ready u s p l) where
   -- past a token that is judged, or that nothing is said of

@@ -1,11 +1,10 @@
 -- The judge between two spots: one token in its role, or one part after the other.
 -- Assumes nothing.
-use Prim.Native.Nat.{ℕ, _+_, _<_, _≤_}
+use Prim.Native.Nat.{ℕ}
 use native.Mathlib.Omega.{arith}
 use mathlib.Core.Path.{_≡_, refl, sym, ap, _∙_, subst}
 use mathlib.Core.Bool.{Bool, true, false}
 use mathlib.Core.List.{List, [], _∷_, map}
-use lib.ListN.{length}
 use Rattle.lexis.specs.Token.{Placed}
 use Rattle.names.specs.Roles.{Role, declares, labels, listens, reads, assigns, belongs, closes, opens, delays, counts, passes}
 use Rattle.names.specs.Judge.{State, Judgement, fine, refused, onward, faults, lowest, next, judge, judged}

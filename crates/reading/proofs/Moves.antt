@@ -1,16 +1,13 @@
 -- The grammar's machine from a spot of a text on: one token taken, refused, or left for what must follow.
 -- Assumes nothing.
-use Prim.Native.Nat.{ℕ, zero, suc, _+_, _<_, _≤_}
-use native.Mathlib.Omega.{arith}
-use mathlib.Core.Path.{_≡_, refl, sym, ap, _∙_, subst}
-use mathlib.Core.Bool.{Bool, true, false}
-use mathlib.Core.Option.{Option, none, some}
-use mathlib.Core.List.{List, [], _∷_, _++_, map}
-use lib.Dec.{eqb}
-use lib.ListN.{length, getD, drop}
+use Prim.Native.Nat.{ℕ, _+_, _<_, _≤_}
+use mathlib.Core.Path.{_≡_, refl, sym, ap, _∙_}
+use mathlib.Core.Bool.{false}
+use mathlib.Core.Option.{none, some}
+use mathlib.Core.List.{List, _∷_, _++_, map}
+use lib.ListN.{length}
 use borrow.Author.Tests.{eq-eqb, ne-eqb}
-use Rattle.laws.specs.Pick.{pick}
-use Rattle.words.specs.Token.{Token, Fixed, fixed}
+use Rattle.words.specs.Token.{Token}
 use Rattle.lexis.specs.Token.{Placed}
 use Rattle.syntax.specs.Tree.{Design}
 use Rattle.syntax.specs.Sentence.{Verdict, accepted, refused3, refused4, mostOpen}
@@ -19,11 +16,11 @@ use Rattle.syntax.proofs.Rows.{Symbol, Value, rows, next}
 use Rattle.syntax.proofs.Nesting.{weight}
 use Rattle.syntax.proofs.Theorem.{run}
 use Rattle.look.specs.declared.Look.{Look}
-use Rattle.look.specs.Inside.Looks.{part, lookOf, tokenOfKind, tokenOfLook}
-use Rattle.look.proofs.Looks.{placed, There, Gone, View, there, gone, seen}
-use Rattle.look.proofs.Numbers.{fixedKind, takenBy, stuck, fixed-token}
+use Rattle.look.specs.Inside.Looks.{part, tokenOfLook}
+use Rattle.look.proofs.Looks.{There, Gone, View, there, gone}
+use Rattle.look.proofs.Numbers.{takenBy, stuck}
 use Rattle.reading.specs.declared.Spot.{Spot}
-use Rattle.reading.specs.Inside.Spots.{tokensFrom, startsFrom, placedVerdict, machine, denied, verdict, past, unfit, deep, wordFrom, wordOf}
+use Rattle.reading.specs.Inside.Spots.{tokensFrom, startsFrom, placedVerdict, machine, verdict, past, unfit, deep}
 
 placed-later : (e p : ℕ) (ps : List ℕ) (o : Verdict Design) → placedVerdict e (p ∷ ps) (later o) ≡ placedVerdict e ps o
 placed-later e p ps (accepted d) = refl

@@ -4,13 +4,13 @@ use Prim.Native.Nat.{ℕ, _+_, _<_, _≤_}
 use native.Mathlib.Omega.{arith}
 use mathlib.Core.Path.{_≡_, refl, sym, ap, _∙_, subst}
 use mathlib.Core.Bool.{Bool, true, false}
-use mathlib.Core.Option.{Option, none, some}
-use mathlib.Core.List.{List, [], _∷_, _++_}
+use mathlib.Core.Option.{some}
+use mathlib.Core.List.{List, _∷_, _++_}
 use lib.Dec.{eqb}
 use lib.ListN.{length}
-use borrow.Author.Tests.{eq-eqb, ne-eqb, eqb-true, eqb-false}
+use borrow.Author.Tests.{eq-eqb, ne-eqb, eqb-true}
 use Rattle.laws.specs.Pick.{pick}
-use Rattle.words.specs.Token.{Token, Fixed, fixed, ENTITY, IS, END, ARCHITECTURE, OF, SIGNAL, BEGIN, BOOLEAN, PROCESS, TRANSPORT, AFTER, IF, THEN, ELSE, NULL, NOT, OPEN, CLOSE, COMMA, COLON, SEMICOLON, ARROW, BECOMES}
+use Rattle.words.specs.Token.{Fixed, fixed, ENTITY, IS, END, ARCHITECTURE, OF, SIGNAL, BEGIN, BOOLEAN, PROCESS, TRANSPORT, AFTER, IF, THEN, ELSE, NULL, NOT, OPEN, CLOSE, COMMA, COLON, SEMICOLON, ARROW, BECOMES}
 use Rattle.syntax.specs.Tree.{Design}
 use Rattle.syntax.specs.Sentence.{mostOpen}
 use Rattle.syntax.proofs.Machine.{Values, Step, made, weights}
@@ -18,7 +18,7 @@ use Rattle.syntax.proofs.Rows.{Symbol, theWord, Value, rows, next}
 use Rattle.syntax.proofs.Nesting.{weight}
 use Rattle.names.specs.Roles.{passes}
 use Rattle.look.specs.declared.Look.{Look}
-use Rattle.look.specs.Inside.Looks.{part, lookOf, tokenOfKind, tokenOfLook}
+use Rattle.look.specs.Inside.Looks.{part, lookOf}
 use Rattle.look.proofs.Looks.{There, View, there, gone, seen}
 use Rattle.look.proofs.Numbers.{fixedKind, takenBy, fixed-seen}
 use Rattle.reading.specs.declared.Spot.{Spot}

@@ -1,5 +1,4 @@
 // A word or mark read at a spot of the text.
-use look::Look;
 use look::peek;
 ghost use mathlib.Core.Path.{_≡_};
 ghost use Prim.Native.Nat.{_≤_};

@@ -7,7 +7,7 @@ use mathlib.Core.List.{List, [], _∷_, _++_, map}
 use lib.ListN.{replicate, drop}
 use Rattle.laws.specs.Text.{bytes}
 use Rattle.syntax.specs.Circuit.{signal, negated, done, assign, Activity, Circuit}
-use Rattle.rules.specs.Sizes.{longest}
+use Rattle.words.specs.Unit.{longest}
 use Rattle.rules.specs.Formulas.{value, size}
 use Rattle.rules.specs.Pending.{change, before, post, taken, kept, valuesAt, dueIn, due, leastIn, least}
 use Rattle.rules.specs.Runner.{over, joined}

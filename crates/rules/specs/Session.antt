@@ -6,7 +6,8 @@ use mathlib.Core.Bool.{Bool, true, false, _&&_, _||_, true≢false}
 use mathlib.Core.List.{List, [], _∷_, cons≢nil}
 use lib.Dec.{eqb}
 use lib.ListN.{length, getD}
-use Rattle.rules.specs.Sizes.{longest, mostPending}
+use Rattle.words.specs.Unit.{longest}
+use Rattle.rules.specs.Sizes.{mostPending}
 use Rattle.rules.specs.Formulas.{Values, differ}
 use Rattle.rules.specs.Outcome.{gives}
 use Rattle.rules.specs.Pending.{Change, change, Pending}

@@ -5,7 +5,8 @@ use mathlib.Core.Bool.{true}
 use mathlib.Core.List.{List, [], _∷_}
 use lib.ListN.{length, getD}
 use Rattle.syntax.specs.Circuit.{AND, Formula, signal, constant, negated, combined, Actions, done, assign, branch, null, Activity, Circuit}
-use Rattle.rules.specs.Sizes.{mostSignals, mostProcesses, mostInstructions, mostOperands, longest}
+use Rattle.words.specs.Unit.{longest}
+use Rattle.rules.specs.Sizes.{mostSignals, mostProcesses, mostInstructions, mostOperands}
 use Rattle.rules.specs.Formulas.{size}
 use Rattle.rules.specs.Statements.{assigns}
 

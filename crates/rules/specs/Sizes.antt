@@ -1,6 +1,6 @@
--- The sizes of document 01 that a run knows. Assumes nothing: these are definitions.
-use Prim.Native.Nat.{ℕ, _^_}
-use mathlib.Core.Path.{_≡_, refl}
+-- The sizes of document 01 that a run knows, beside the longest delay and latest stop, which stand with the units of time.
+-- Assumes nothing: these are definitions.
+use Prim.Native.Nat.{ℕ}
 
 abbrev pub mostSignals : ℕ
 mostSignals = 64
@@ -10,10 +10,6 @@ mostProcesses = 64
 
 abbrev pub mostInstructions : ℕ
 mostInstructions = 4096
-
--- a delay and a stop time, in femtoseconds
-abbrev pub longest : ℕ
-longest = 1000000000000000000
 
 -- pending changes per signal
 abbrev pub mostPending : ℕ
@@ -30,6 +26,3 @@ mostOperands = 34
 -- bytes of an output buffer
 abbrev pub bufferBytes : ℕ
 bufferBytes = 4096
-
-ten-to-18 : longest ≡ 10 ^ 18
-ten-to-18 = refl

@@ -1,12 +1,12 @@
 -- Loading cells from a session's words, and storing them. Assumes nothing.
 use Prim.Native.Nat.{ℕ, suc, _+_, _<_, _≤_}
-use mathlib.Core.Path.{_≡_, refl, ap, sym, _∙_}
-use mathlib.Core.List.{List, [], _∷_}
+use mathlib.Core.Path.{_≡_, ap, _∙_}
+use mathlib.Core.List.{List, _∷_}
 use native.Mathlib.Omega.{arith}
 use lib.ListN.{length, getD, set, take, replicate, length-set, length-replicate}
 use lib.Seq.{sets, getD-set-same, getD-set-other, take-all}
-use Rattle.cells.proofs.Tabulating.{by}
-use Rattle.writing.proofs.Buffers.{copied-more}
+use Rattle.laws.proofs.Cases.{by}
+use Rattle.laws.proofs.Lists.{copied-more}
 use Rattle.run.specs.Inside.Copies.{Loaded}
 
 pub loaded-none : (words : List ℕ) (n : ℕ) → n ≡ 1152 → Loaded words 0 (replicate n 0)

@@ -1,27 +1,26 @@
 -- What a call on cells leaves of the lent words. Assumes nothing.
-use Prim.Native.Nat.{ℕ, _≤_, _<_}
+use Prim.Native.Nat.{ℕ, _≤_}
 use mathlib.Core.Path.{_≡_, refl, ap, sym, subst, _∙_}
 use mathlib.Core.List.{List, _∷_}
 use native.Mathlib.Omega.{arith}
 use lib.ListN.{length}
 use lib.Seq.{sets}
-use Rattle.rules.specs.Session.{Session, FitSession}
-use Rattle.rules.specs.Calls.{Moved, refused, quiet, stopReached, moved, start, advance}
+use Rattle.rules.specs.Session.{FitSession}
+use Rattle.rules.specs.Calls.{refused, quiet, stopReached, moved, start, advance}
 use Rattle.rules.specs.Calls as calls
-use Rattle.table.specs.Table.{Table, runners}
+use Rattle.table.specs.Table.{runners}
 use Rattle.layout.specs.TableWords.{FitTableWords}
 use Rattle.layout.specs.SessionWords.{sessionWords, FitSessionWords}
 use Rattle.layout.proofs.Tables.{decodeTable, table-of-fit-words}
-use Rattle.layout.proofs.Sessions.{decodeSession, session-of-fit-words}
-use Rattle.cells.specs.Cells.{values, pendings, FitFor}
+use Rattle.layout.proofs.Sessions.{session-of-fit-words}
+use Rattle.cells.specs.Cells.{values, FitFor}
 use Rattle.machine.specs.Inside.Steps.{signalsOf}
 use Rattle.machine.proofs.Fetching.{held, fits}
 use Rattle.cycles.specs.Inside.Turns.{sessionOf}
-use Rattle.session.specs.Answers.{answerOf, outAfter}
-use Rattle.session.specs.Inside.Goings.{CellsAfter, GoesAs}
+use Rattle.session.specs.Inside.Goings.{GoesAs}
 use Rattle.session.specs.declared.Answer.{Answer}
 use Rattle.session.specs.declared.Answer.the-variants.{Refused, Quiet, StopReached, Moves}
-use Rattle.run.specs.Lent.{wordsAfter, Gives}
+use Rattle.run.specs.Lent.{Gives}
 use Rattle.run.specs.Inside.Copies.{Loaded}
 use Rattle.run.proofs.Holding.{values-here, pendings-here, cells-fit, words-are}
 

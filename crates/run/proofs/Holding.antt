@@ -1,24 +1,26 @@
 -- The cells of a fit session's words fit; and the words of fit cells are the words of their session. Assumes nothing.
-use Prim.Native.Nat.{ℕ, zero, suc, _+_, _*_, _-_, _/_, _%_, _<_, _≤_}
+use Prim.Native.Nat.{ℕ, suc, _+_, _*_, _-_, _%_, _<_, _≤_}
 use mathlib.Core.Path.{_≡_, refl, ap, sym, subst, _∙_}
 use mathlib.Core.List.{List, [], _∷_, map}
-use mathlib.Core.Bool.{Bool, true, false}
+use mathlib.Core.Bool.{false}
 use mathlib.Core.Logic.{⊎-elim}
 use native.Mathlib.Omega.{arith}
-use lib.ListN.{length, getD, take, length-map, List·getD-map, List·getD-eq-default}
+use lib.ListN.{length, getD, length-map, List·getD-eq-default}
 use lib.Seq.{take-all}
-use Rattle.rules.specs.Pending.{Change, change}
+use Rattle.laws.proofs.Cases.{side}
+use Rattle.laws.proofs.Lists.{at-map}
+use Rattle.rules.specs.Pending.{change}
 use Rattle.rules.specs.Session.{Session, Rising, FitSession}
 use Rattle.table.specs.Table.{Table, tabulate, runners}
 use Rattle.table.specs.Translation.{number}
-use Rattle.table.proofs.Tabulated.{length-tabulate, at-tabulate, at-map}
-use Rattle.table.proofs.Outcomes.{side}
-use Rattle.layout.specs.SessionWords.{countAt, valuesFrom, pendingFrom, changesFrom, sessionSize, changeWord, sessionWords, HoldsSession}
+use Rattle.table.proofs.Tabulated.{length-tabulate, at-tabulate}
+use Rattle.layout.specs.SessionWords.{valuesFrom, pendingFrom, changesFrom, sessionSize, changeWord, sessionWords, HoldsSession}
 use Rattle.layout.proofs.ChangeWords.{changeOf}
+use Rattle.layout.proofs.Decoded.{number-truth}
 use Rattle.layout.proofs.SessionLaws.{value-below, values-unused, pending-unused, changes-unused, count-is, pending-most}
 use Rattle.layout.proofs.Sessions.{changesAt, decodeSession, decode-session, words-of-session}
-use Rattle.cells.specs.Cells.{truth, changeIn, countOf, pendingOf, valueOf, values, pendings, Fit, FitFor}
-use Rattle.cells.proofs.Tabulating.{tabulate-same, at-tabulated}
+use Rattle.cells.specs.Cells.{truth, changeIn, countOf, pendingOf, valueOf, values, pendings, FitFor}
+use Rattle.cells.proofs.Tabulating.{tabulate-same}
 use Rattle.cells.proofs.Columns.{length-values, length-pendings, pending-at, pending-past, value-at}
 use Rattle.cycles.specs.Inside.Turns.{sessionOf}
 use Rattle.run.specs.Inside.Copies.{Loaded}
@@ -86,11 +88,6 @@ module _ (t : Table) (n : ℕ) (few : n ≤ 64) (words : List ℕ) (s : Session)
 
 -- FROM CELLS TO WORDS
 
-number-truth : (x : ℕ) → x ≤ 1 → number (truth x) ≡ x
-number-truth zero l = refl
-number-truth (suc zero) l = refl
-number-truth (suc (suc x)) l = absurd (omega arith)
-
 word-back : (cells : List ℕ) (z : ℕ) → changeWord (changeIn cells z) ≡ getD cells z 0
 unfolding changeIn
 word-back cells z = rw (number-truth (getD cells z 0 % 2) (omega arith)) (omega arith)
@@ -105,7 +102,7 @@ module _ (n time : ℕ) (cells : List ℕ) (f : FitFor n cells) where
   value-word : (k : ℕ) → k < 64 → getD cells k 0 ≡ getD (map number (values n cells)) k 0
   value-word k l =
       ⊎-elim
-      (λ m. sym (at-map number (values n cells) k false 0 (omega (arith, length-values n cells)) ∙ ap number (value-at n cells k m) ∙ number-truth (getD cells k 0) (f .fit .bits k l)))
+      (λ m. sym (at-map number (values n cells) k false 0 (omega (arith, length-values n cells)) ∙ ap number (value-at n cells k m) ∙ number-truth (getD cells k 0) (omega (arith, f .fit .bits k l))))
       (λ m. f .noValues k m l ∙ sym (List·getD-eq-default (map number (values n cells)) 0 {n = k} (omega (arith, length-map (values n cells) number, length-values n cells))))
       (side k n)
 

@@ -1,20 +1,19 @@
 -- No second outcome of a start or an advance fits. Assumes nothing.
-use Prim.Native.Nat.{ℕ, _≤_, _<_}
+use Prim.Native.Nat.{ℕ}
 use mathlib.Core.Path.{_≡_, refl, ap, sym, subst, _∙_}
 use mathlib.Core.List.{List}
 use native.Mathlib.Omega.{arith}
-use lib.ListN.{length}
-use Rattle.rules.specs.Calls.{refused, start, advance}
+use Rattle.rules.specs.Calls.{start, advance}
 use Rattle.rules.specs.Calls as calls
 use Rattle.rules.specs.Session.{Session}
 use Rattle.table.specs.Table.{Table, runners}
 use Rattle.layout.specs.TableWords.{FitTableWords}
 use Rattle.layout.specs.SessionWords.{FitSessionWords}
-use Rattle.layout.proofs.Tables.{decodeTable, table-of-fit-words}
-use Rattle.layout.proofs.Sessions.{decodeSession, session-of-fit-words}
+use Rattle.layout.proofs.Tables.{table-of-fit-words}
+use Rattle.layout.proofs.Sessions.{session-of-fit-words}
 use Rattle.session.specs.Answers.{answerOf, outAfter}
 use Rattle.session.specs.declared.Answer.{Answer}
-use Rattle.run.specs.Lent.{wordsAfter, LongEnough, StartDue, AdvanceDue, Gives, Starts, Advances}
+use Rattle.run.specs.Lent.{wordsAfter, StartDue, AdvanceDue, Starts, Advances}
 use Rattle.run.specs.Lent as lent
 
 module _ (tb ws bs : List ℕ) where

@@ -5,8 +5,9 @@ use mathlib.Core.Path.{_≡_}
 use mathlib.Core.List.{List}
 use lib.ListN.{length}
 use lib.Seq.{sets}
-use Rattle.rules.specs.Sizes.{longest, bufferBytes}
-use Rattle.rules.specs.Calls.{Moved, refused, quiet, stopReached, moved, start, advance}
+use Rattle.words.specs.Unit.{longest}
+use Rattle.rules.specs.Sizes.{bufferBytes}
+use Rattle.rules.specs.Calls.{refused, quiet, stopReached, moved, start, advance}
 use Rattle.rules.specs.Calls as calls
 use Rattle.table.specs.Table.{runners}
 use Rattle.layout.specs.TableWords.{tableSize, FitTableWords}

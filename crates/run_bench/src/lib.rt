@@ -1,5 +1,5 @@
 // What the benchmark of the run calls from C: in each answer the time after the call, or 0 where it did not move.
-ghost use Prim.Native.Nat.{ℕ, _≤_};
+ghost use Prim.Native.Nat.{_≤_};
 ghost use lib.ListN.{length};
 ghost use Rattle.layout.specs.TableWords.{FitTableWords};
 ghost use Rattle.cells.specs.Cells.{FitFor};

@@ -1,13 +1,13 @@
 -- The start on cells is the start. Assumes nothing.
-use Prim.Native.Nat.{ℕ, zero, suc, _+_, _*_, _-_, _^_, _<_, _≤_}
-use mathlib.Core.Path.{_≡_, refl, ap, sym, subst, _∙_}
-use mathlib.Core.List.{List, [], _∷_}
-use mathlib.Core.Bool.{Bool, true, false}
-use mathlib.Core.Logic.{⊎-elim}
+use Prim.Native.Nat.{ℕ, zero, suc, _+_, _*_, _-_, _<_, _≤_}
+use mathlib.Core.Path.{_≡_, refl, ap, sym, _∙_}
+use mathlib.Core.List.{List, []}
+use mathlib.Core.Bool.{true}
 use native.Mathlib.Omega.{arith}
-use lib.ListN.{length, getD, set, replicate, length-set, getD-replicate, length-replicate}
+use lib.ListN.{length, getD, set, replicate, length-set, length-replicate}
 use lib.Pow.{pow-pos}
 use lib.Seq.{getD-set-same, getD-set-other}
+use Rattle.laws.proofs.Cases.{by}
 use Rattle.rules.specs.Outcome.{Outcome, refuses, gives, _then_}
 use Rattle.rules.specs.Formulas.{Values}
 use Rattle.rules.specs.Pending.{Change, Pending, dueIn}
@@ -15,20 +15,19 @@ use Rattle.rules.specs.Runner.{Left, Runner, joined}
 use Rattle.rules.specs.Session.{Each, Rising}
 use Rattle.rules.specs.Dump.{startBytes}
 use Rattle.rules.specs.Calls.{Progress, refused, moved, answered, cycles, started, start}
-use Rattle.table.specs.Table.{Table, bit, tabulate, runner, runners}
-use Rattle.table.proofs.Tabulated.{length-tabulate, bit-zero}
+use Rattle.table.specs.Table.{Table, tabulate, runner, runners}
+use Rattle.table.proofs.Tabulated.{bit-zero}
 use Rattle.table.proofs.Threads.{threaded}
 use Rattle.table.proofs.Local.{one-after-the-other}
-use Rattle.layout.specs.TableWords.{signalsAt, initialFrom, FitTableWords}
+use Rattle.layout.specs.TableWords.{initialFrom, FitTableWords}
 use Rattle.layout.proofs.TableLaws.{initial-below, initial-unused, signals-most}
 use Rattle.layout.proofs.Tables.{decodeTable}
-use Rattle.cells.specs.Cells.{truth, changeIn, countOf, pendingOf, valueOf, values, pendings, Fit, FitFor, Due}
-use Rattle.cells.proofs.Tabulating.{by, tabulate-same, past-tabulated}
-use Rattle.cells.proofs.Columns.{pending-at, pending-past}
+use Rattle.cells.specs.Cells.{truth, pendingOf, valueOf, values, pendings, Fit, FitFor, Due}
+use Rattle.cells.proofs.Tabulating.{tabulate-same}
 use Rattle.machine.specs.Inside.Steps.{signalsOf}
 use Rattle.machine.specs.declared.Ran.the-variants.{Done, Full}
 use Rattle.machine.proofs.Fetching.{held, fits}
-use Rattle.cycles.specs.Inside.Turns.{processesOf, turns, WakesAs, sessionOf, progressOf, SettledAs}
+use Rattle.cycles.specs.Inside.Turns.{processesOf, turns, WakesAs, sessionOf, progressOf}
 use Rattle.cycles.proofs.Waking.{turns-threaded}
 use Rattle.session.specs.Inside.Goings.{Fresh, AllOf}
 

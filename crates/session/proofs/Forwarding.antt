@@ -1,19 +1,14 @@
 -- An advance on cells is an advance. Assumes nothing.
-use Prim.Native.Nat.{ℕ, _+_, _<_, _≤_}
-use mathlib.Core.Path.{_≡_, refl, ap, sym, _∙_}
-use mathlib.Core.List.{List, []}
-use mathlib.Core.Bool.{Bool, true, false}
-use native.Mathlib.Omega.{arith}
-use lib.Dec.{ltb}
+use Prim.Native.Nat.{ℕ, _<_, _≤_}
+use mathlib.Core.Path.{_≡_, ap, sym, _∙_}
+use mathlib.Core.List.{List}
 use borrow.Author.Tests.{lt-ltb, le-ltb}
-use Rattle.laws.specs.Pick.{pick}
-use Rattle.rules.specs.Outcome.{Outcome, refuses, gives}
-use Rattle.rules.specs.Pending.{Least, nothing, first, least}
+use Rattle.rules.specs.Outcome.{refuses, gives}
+use Rattle.rules.specs.Pending.{nothing}
 use Rattle.rules.specs.Runner.{Runner}
-use Rattle.rules.specs.Session.{Session}
 use Rattle.rules.specs.Dump.{advanceBytes}
-use Rattle.rules.specs.Calls.{Progress, refused, quiet, stopReached, moved, answered, cycles, advance}
-use Rattle.cells.specs.Cells.{values, pendings, FitFor, Due, ComesNext}
+use Rattle.rules.specs.Calls.{refused, quiet, stopReached, moved, answered, cycles, advance}
+use Rattle.cells.specs.Cells.{values, pendings, ComesNext}
 use Rattle.cells.specs.declared.Coming.the-variants.{Nothing, At}
 use Rattle.cycles.specs.Inside.Turns.{sessionOf, progressOf}
 use Rattle.writing.specs.Inside.Written.{bitsOf, Packs}

@@ -1,17 +1,15 @@
 -- What a call on cells answers and leaves, case by case. Assumes nothing.
-use Prim.Native.Nat.{ℕ, _+_}
-use mathlib.Core.Path.{_≡_, refl, ap, sym, subst, _∙_}
+use Prim.Native.Nat.{ℕ}
+use mathlib.Core.Path.{_≡_, refl}
 use mathlib.Core.List.{List}
 use native.Mathlib.Omega.{arith}
 use lib.ListN.{length}
-use lib.Seq.{sets}
-use Rattle.rules.specs.Calls.{Moved, refused, quiet, stopReached, moved}
+use Rattle.rules.specs.Calls.{refused, quiet, stopReached, moved}
 use Rattle.rules.specs.Calls as calls
 use Rattle.cells.specs.Cells.{FitFor}
 use Rattle.cycles.specs.Inside.Turns.{sessionOf}
 use Rattle.writing.specs.Inside.Written.{Writes}
-use Rattle.session.specs.Answers.{answerOf, outAfter}
-use Rattle.session.specs.Inside.Goings.{CellsAfter, GoesAs}
+use Rattle.session.specs.Inside.Goings.{GoesAs}
 use Rattle.session.specs.declared.Answer.{Answer}
 use Rattle.session.specs.declared.Answer.the-variants.{Refused, Quiet, StopReached, Moves}
 

@@ -1,10 +1,9 @@
 -- The methods of a session do what the functions on its cells do. Assumes nothing.
-use Prim.Native.Nat.{ℕ, _+_, _<_, _≤_}
-use mathlib.Core.Path.{_≡_, refl, ap, sym, subst, _∙_}
-use mathlib.Core.Bool.{Bool, true, false}
-use mathlib.Core.List.{List, map}
+use Prim.Native.Nat.{ℕ, _<_}
+use mathlib.Core.Path.{_≡_, refl}
+use mathlib.Core.Bool.{Bool}
+use mathlib.Core.List.{List}
 use native.Mathlib.Omega.{arith}
-use Rattle.rules.specs.Pending.{change, post, kept, valuesAt}
 use Rattle.table.specs.Table.{runners}
 use Rattle.layout.proofs.Tables.{decodeTable}
 use Rattle.cells.specs.Cells.{values, pendings, FitFor, Posted, Due}
@@ -15,7 +14,7 @@ use Rattle.machine.specs.declared.Ran.{Ran}
 use Rattle.machine.specs.declared.Ran.the-variants.{Done, Full}
 use Rattle.cycles.specs.Inside.Turns.{Taken, CyclesAs}
 use Rattle.cycles.proofs.Cycling.{new-values, new-pending}
-use Rattle.session.specs.Sessions.{sessionIn, FitHeld, PostsAs, TakesAs, CycleAs}
+use Rattle.session.specs.Sessions.{PostsAs, TakesAs, CycleAs}
 use Rattle.session.specs.declared.Session.{Session}
 
 abbrev held : ℕ → ℕ → List ℕ → Session

@@ -5,8 +5,7 @@ use mathlib.Core.Path.{_≡_, refl}
 use mathlib.Core.List.{List, [], _∷_}
 use lib.ListN.{length}
 use lib.Seq.{sets}
-use Rattle.rules.specs.Session.{Session}
-use Rattle.rules.specs.Calls.{Moved, refused, quiet, stopReached, moved}
+use Rattle.rules.specs.Calls.{refused, quiet, stopReached, moved}
 use Rattle.rules.specs.Calls as calls
 use Rattle.session.specs.declared.Answer.{Answer}
 use Rattle.session.specs.declared.Answer.the-variants.{Refused, Quiet, StopReached, Moves}

@@ -2,9 +2,9 @@
 -- Assumes nothing: these are definitions.
 use Prim.Native.Nat.{ℕ, _+_}
 use mathlib.Core.Path.{_≡_}
-use mathlib.Core.Bool.{Bool, true, false}
+use mathlib.Core.Bool.{Bool}
 use mathlib.Core.List.{List, map}
-use Rattle.rules.specs.Outcome.{Outcome, refuses, gives}
+use Rattle.rules.specs.Outcome.{refuses, gives}
 use Rattle.rules.specs.Pending.{change, post, kept, valuesAt}
 use Rattle.rules.specs.Runner.{Runner}
 use Rattle.rules.specs.Session.{Session}

@@ -1,8 +1,7 @@
 // A session, and the run of a start and of an advance: on its cells in place, and on lent words.
 ghost use mathlib.Core.Path.{_≡_};
-ghost use mathlib.Core.Bool.{true, false};
-ghost use Prim.Native.Nat.{ℕ, _+_, _*_, _^_, _≤_, _<_};
-ghost use lib.ListN.{length, getD};
+ghost use Prim.Native.Nat.{ℕ, _≤_, _<_};
+ghost use lib.ListN.{length};
 ghost use Rattle.rules.specs.Calls.{start, advance};
 ghost use Rattle.table.specs.Table.{runners};
 ghost use Rattle.layout.specs.TableWords.{FitTableWords};

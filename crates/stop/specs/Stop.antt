@@ -10,7 +10,6 @@ use Rattle.laws.specs.Text.{bytes}
 use Rattle.words.specs.Integer.{valueOf}
 use Rattle.words.specs.Unit.{delayOf}
 use Rattle.words.specs.Vocabulary.{sameWord}
-use Rattle.words.specs.declared.unit.TimeUnit.{TimeUnit}
 use Rattle.words.specs.declared.unit.TimeUnit.the-variants.{Fs, Ps, Ns, Us, Ms, Sec, Min, Hr}
 use Rattle.words.specs.declared.unit.Delay.{Delay}
 use Rattle.words.specs.declared.unit.Delay.the-variants.{Femtoseconds, TooLong}

@@ -1,13 +1,10 @@
 // The stop words of a program: an integer and a unit, as in a text.
 use lexis::run::all_digits;
-use words::integer::Amount;
-use words::integer::amount_of;
+use words::integer::time_of;
 use words::unit::Delay;
 use words::unit::TimeUnit;
 use words::vocabulary::same_word;
 ghost use mathlib.Core.Path.{_≡_};
-ghost use Rattle.words.specs.Integer.{valueOf};
-ghost use Rattle.words.specs.Unit.{delayOf};
 ghost use Rattle.stop.specs.Stop.{unitOf, stopOf};
 
 // A unit of time, or a word that is none.
@@ -44,16 +41,6 @@ pub fn unit_of(word: &[u8]) -> Unit
         return Unit::Is(TimeUnit::Hr);
     }
     Unit::None
-}
-
-// So many of a unit, in femtoseconds, from the digits of the amount.
-pub fn time_of(digits: &[u8], unit: TimeUnit) -> Delay
-    ensures { λ r. ⌜ r ≡ delayOf (valueOf (now (digits .entry))) unit ⌝ }
-{
-    match amount_of(digits) {
-        Amount::Small(amount) => unit.femtoseconds(amount),
-        Amount::Large => Delay::TooLong,
-    }
 }
 
 // A stop in femtoseconds, or refusal 12.

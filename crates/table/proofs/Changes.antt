@@ -1,15 +1,15 @@
 -- A signal's pending changes: what removing some of them, or adding one, keeps. Assumes nothing.
 use Prim.Native.Nat.{ℕ, _≤_, _<_}
 use native.Mathlib.Omega.{arith}
-use mathlib.Core.Path.{_≡_, refl}
-use mathlib.Core.Bool.{Bool, true, false, _||_}
+use mathlib.Core.Path.{_≡_}
+use mathlib.Core.Bool.{false}
 use mathlib.Core.List.{List, [], _∷_, _++_}
 use lib.Dec.{ltb, eqb}
 use lib.ListN.{length}
 use borrow.Author.Tests.{ltb-true, eqb-false}
+use Rattle.laws.proofs.Cases.{split, neither}
 use Rattle.rules.specs.Pending.{Change, before, kept, dueIn}
 use Rattle.rules.specs.Session.{Each, Rising}
-use Rattle.table.proofs.Outcomes.{split}
 
 module _ (P : Change → Type 0) where
   pub each-before : (t : ℕ) (cs : List Change) → Each P cs → Each P (before t cs)
@@ -66,17 +66,6 @@ unfolding kept
 length-kept t [] = omega arith
 length-kept t (c ∷ cs) =
     split (eqb (c .time) t) (λ e. rw e (omega (arith, length-kept t cs))) (λ e. rw e (omega (arith, length-kept t cs)))
-
-or-false-left : (a b : Bool) → (a || b) ≡ false → a ≡ false
-or-false-left true b h = h
-or-false-left false b h = refl
-
-or-false-right : (a b : Bool) → (a || b) ≡ false → b ≡ false
-or-false-right true b h = absurd (mathlib.Core.Bool.true≢false h)
-or-false-right false b h = h
-
-pub neither : (a b : Bool) → (a || b) ≡ false → (a ≡ false) × (b ≡ false)
-neither a b h = (or-false-left a b h, or-false-right a b h)
 
 -- where none is due and none is earlier, all are later
 pub later-kept : (t : ℕ) (cs : List Change) → dueIn t cs ≡ false → Each (λ c. t ≤ c .time) cs → Each (λ c. t < c .time) cs

@@ -6,7 +6,7 @@ use mathlib.Core.Logic.{_↔_}
 use mathlib.Core.List.{List, [], _∷_, map}
 use lib.ListN.{length}
 use Rattle.syntax.specs.Circuit.{Circuit}
-use Rattle.rules.specs.Sizes.{longest}
+use Rattle.words.specs.Unit.{longest}
 use Rattle.rules.specs.Runner.{Runner}
 use Rattle.rules.specs.Statements.{means}
 use Rattle.rules.specs.Session.{Session, FitSession}

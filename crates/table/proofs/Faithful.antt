@@ -8,14 +8,15 @@ use mathlib.Core.List.{List, [], _∷_, _++_, map}
 use lib.ListN.{length, getD, take, drop, List·getD-eq-default}
 use lib.Seq.{take-at, drop-at, drop-drop}
 use borrow.Author.Tests.{ne-eqb}
+use Rattle.laws.proofs.Cases.{side}
+use Rattle.laws.proofs.Lists.{at-map}
 use Rattle.syntax.specs.Circuit.{Formula, signal, constant, negated, combined, Actions, done, assign, branch, null, Activity, Circuit}
 use Rattle.rules.specs.Statements.{assigns, member, means}
 use Rattle.rules.specs.Sized.{instructions, total, Listed, idle, Sized}
 use Rattle.table.specs.Instructions.{Instruction, negation, binary}
 use Rattle.table.specs.Table.{bit, tabulate, begins, part, posts, runner, runners}
 use Rattle.table.specs.Translation.{formulaCode, code, endsFrom, codeFrom, listenersOf, translate}
-use Rattle.table.proofs.Outcomes.{side}
-use Rattle.table.proofs.Tabulated.{length-tabulate, at-tabulate, map-tabulate, at-map, bit-zero, bit-word}
+use Rattle.table.proofs.Tabulated.{length-tabulate, at-tabulate, map-tabulate, bit-zero, bit-word}
 use Rattle.table.proofs.Translating.{meaning, length-code}
 
 -- what follows the code of a formula or of statements is what follows it

@@ -7,6 +7,7 @@ use mathlib.Core.Logic.{⊎-elim}
 use mathlib.Core.List.{List, [], _∷_, map}
 use lib.ListN.{length, getD, drop, length-map, List·getD-eq-default}
 use lib.Seq.{getD-take, getD-drop, take-length}
+use Rattle.laws.proofs.Cases.{side}
 use Rattle.syntax.specs.Circuit.{Formula, signal, constant, negated, combined, Actions, done, assign, branch, null, Activity, Circuit}
 use Rattle.rules.specs.Statements.{assigns, member}
 use Rattle.rules.specs.Sized.{instructions, total, Known, Keeps, idle, Sized}
@@ -14,7 +15,6 @@ use Rattle.table.specs.Instructions.{Instruction, negation}
 use Rattle.table.specs.Table.{tabulate, begins, part, posts}
 use Rattle.table.specs.Fit.{at, Exists, Sound, FitTable}
 use Rattle.table.specs.Translation.{formulaCode, code, codeFrom, word, listenersOf, translate}
-use Rattle.table.proofs.Outcomes.{side}
 use Rattle.table.proofs.Tabulated.{length-tabulate, at-tabulate, word-below}
 use Rattle.table.proofs.Translating.{length-code}
 use Rattle.table.proofs.Faithful.{as-many, base, base-next, begin-at, part-at, posts-code}

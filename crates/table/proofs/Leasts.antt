@@ -8,9 +8,9 @@ use mathlib.Core.List.{List, [], _∷_}
 use lib.Dec.{eqb}
 use lib.ListN.{getD}
 use borrow.Author.Tests.{eq-eqb, eqb-true}
+use Rattle.laws.proofs.Cases.{split, side}
 use Rattle.rules.specs.Pending.{Change, Pending, dueIn, due, Least, nothing, first, lower, leastIn, least}
 use Rattle.rules.specs.Session.{Each}
-use Rattle.table.proofs.Outcomes.{split, side}
 
 -- none is earlier
 abbrev Above : ℕ → Least → Type 0

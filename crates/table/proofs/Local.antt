@@ -8,11 +8,12 @@ use mathlib.Core.List.{List, [], _∷_}
 use lib.Dec.{eqb}
 use lib.ListN.{length}
 use borrow.Author.Tests.{eq-eqb}
+use Rattle.laws.proofs.Cases.{split}
 use Rattle.rules.specs.Outcome.{Outcome, refuses, gives, _then_}
 use Rattle.rules.specs.Formulas.{Values}
 use Rattle.rules.specs.Pending.{Pending, change, post}
 use Rattle.rules.specs.Runner.{Runner, over, joined}
-use Rattle.table.proofs.Outcomes.{split, Gives}
+use Rattle.table.proofs.Outcomes.{Gives}
 use Rattle.table.proofs.Overlays.{over-post, length-post}
 use Rattle.table.proofs.Threads.{threaded, laid, Local, Apart, Single, threaded-joined}
 use Rattle.table.specs.Instructions.{Instruction, name, literal, negation, binary, assignment, test, skip}

@@ -8,13 +8,14 @@ use mathlib.Core.List.{List, [], _∷_}
 use lib.Dec.{eqb}
 use lib.ListN.{length}
 use borrow.Author.Tests.{eq-eqb}
-use Rattle.rules.specs.Sizes.{longest}
+use Rattle.laws.proofs.Cases.{side}
+use Rattle.words.specs.Unit.{longest}
 use Rattle.rules.specs.Outcome.{Outcome, refuses, gives, _then_}
 use Rattle.rules.specs.Formulas.{Values}
 use Rattle.rules.specs.Pending.{Pending, change, post}
 use Rattle.rules.specs.Runner.{Runner}
 use Rattle.rules.specs.Session.{driven}
-use Rattle.table.proofs.Outcomes.{side, Gives, gives-then}
+use Rattle.table.proofs.Outcomes.{Gives, gives-then}
 use Rattle.table.proofs.Orderly.{Orderly, InOrder, Obedient, AllObedient, orderly-post}
 use Rattle.table.specs.Instructions.{Instruction, name, literal, negation, binary, assignment, test, skip}
 use Rattle.table.specs.Machine.{top, pop, next, does, walk}

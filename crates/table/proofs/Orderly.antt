@@ -3,18 +3,20 @@ use Prim.Native.Nat.{ℕ, zero, suc, _+_, _≤_, _<_}
 use native.Mathlib.Omega.{arith}
 use mathlib.Core.Path.{_≡_, refl, sym, _∙_, ap, subst}
 use mathlib.Core.Bool.{Bool, true, false, true≢false}
-use mathlib.Core.Logic.{_⊎_, inl, inr, ⊎-elim}
+use mathlib.Core.Logic.{_⊎_, ⊎-elim}
 use mathlib.Core.List.{List, [], _∷_, _++_, map}
-use lib.Dec.{ltb, eqb}
+use lib.Dec.{ltb}
 use lib.ListN.{length, getD, set, replicate, length-set, length-append, length-map, length-replicate, List·getD-map}
 use lib.Seq.{getD-set-same, getD-set-other, set-out}
-use borrow.Author.Tests.{ltb-true, eqb-true, eqb-false}
-use Rattle.rules.specs.Sizes.{longest, mostPending}
+use borrow.Author.Tests.{ltb-true}
+use Rattle.laws.proofs.Cases.{same-or, split, side}
+use Rattle.words.specs.Unit.{longest}
+use Rattle.rules.specs.Sizes.{mostPending}
 use Rattle.rules.specs.Formulas.{Values}
 use Rattle.rules.specs.Pending.{Change, Pending, before, post, kept}
 use Rattle.rules.specs.Runner.{Left, Runner, over, join, joined}
 use Rattle.rules.specs.Session.{Each, Rising}
-use Rattle.table.proofs.Outcomes.{split, side, Gives, gives-then}
+use Rattle.table.proofs.Outcomes.{Gives, gives-then}
 use Rattle.table.proofs.Overlays.{length-over, over-driven, over-other}
 use Rattle.table.proofs.Changes.{each-before, each-kept, each-append, before-earlier, rising-before, rising-kept, rising-append, length-kept}
 
@@ -55,9 +57,6 @@ tidy-kept low high t cs h =
       rising = rising-kept t cs (h .rising);
     }
 
-apart : (j k : ℕ) → (j ≡ k) ⊎ (j ≡ k → ⊥)
-apart j k = split (eqb j k) (λ e. inl (eqb-true j k e)) (λ e. inr (eqb-false j k e))
-
 module _ (driven : ℕ → Bool) (n low high : ℕ) where
   -- a signal's changes are replaced by tidy ones
   orderly-set : (p : Pending) (k : ℕ) (cs : List Change) → driven k ≡ true → Tidy low high cs → Orderly driven n low high p
@@ -71,11 +70,11 @@ module _ (driven : ℕ → Bool) (n low high : ℕ) where
             (λ l. rw (set-out p k cs l) (h .tidy j))
             (side k (length p)))
             (λ e. rw (getD-set-other p k j cs [] e) (h .tidy j))
-            (apart j k);
+            (same-or j k);
         idle = λ j f. ⊎-elim
             (λ e. let z : true ≡ false = sym d ∙ ap driven (sym e) ∙ f in absurd (true≢false z))
             (λ e. rw (getD-set-other p k j cs [] e) (h .idle j f))
-            (apart j k);
+            (same-or j k);
       }
 
   pub orderly-post : (p : Pending) (k : ℕ) (c : Change) → driven k ≡ true → low ≤ c .time → c .time ≤ high → Orderly driven n low high p

@@ -1,20 +1,6 @@
--- Cases of a test, and going on from an outcome. Assumes nothing.
-use Prim.Native.Nat.{ℕ, _≤_, _<_}
+-- Going on from an outcome. Assumes nothing.
 use mathlib.Core.Path.{_≡_, refl}
-use mathlib.Core.Bool.{Bool, true, false}
-use mathlib.Core.Logic.{_⊎_, inl, inr}
-use lib.Dec.{ltb}
-use borrow.Author.Tests.{ltb-true, ltb-false}
 use Rattle.rules.specs.Outcome.{Outcome, refuses, gives, _then_}
-
--- a test is true or false
-pub split : {A : Type 0} (v : Bool) → (v ≡ true → A) → (v ≡ false → A) → A
-split true f g = f refl
-split false f g = g refl
-
--- a number is below another or not
-pub side : (k n : ℕ) → (k < n) ⊎ (n ≤ k)
-side k n = split (ltb k n) (λ e. inl (ltb-true k n e)) (λ e. inr (ltb-false k n e))
 
 -- two ways to go on from one outcome agree where they agree on what it gives
 pub onward : {A B C : Type 0} (o : Outcome A) (f : A → Outcome C) (g : A → Outcome B) (h : B → Outcome C)

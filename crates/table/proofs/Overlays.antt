@@ -7,11 +7,12 @@ use mathlib.Core.List.{List, [], _∷_}
 use lib.Dec.{ltb}
 use lib.ListN.{length, getD, set, length-set}
 use Rattle.laws.specs.Pick.{pick}
+use Rattle.laws.proofs.Cases.{split}
 use Rattle.rules.specs.Sizes.{mostPending}
 use Rattle.rules.specs.Outcome.{gives, _then_}
 use Rattle.rules.specs.Pending.{Change, Pending, before, post}
 use Rattle.rules.specs.Runner.{over}
-use Rattle.table.proofs.Outcomes.{split, Gives}
+use Rattle.table.proofs.Outcomes.{Gives}
 
 pub length-over : (d : ℕ → Bool) (q p : Pending) → length (over d q p) ≡ length p
 unfolding over

@@ -7,7 +7,9 @@ use mathlib.Core.List.{List, [], _∷_, map}
 use lib.Dec.{ltb}
 use lib.ListN.{length, getD, replicate}
 use borrow.Author.Tests.{ltb-false}
-use Rattle.rules.specs.Sizes.{longest, mostCycles}
+use Rattle.laws.proofs.Cases.{split, neither}
+use Rattle.words.specs.Unit.{longest}
+use Rattle.rules.specs.Sizes.{mostCycles}
 use Rattle.rules.specs.Outcome.{Outcome, refuses, gives}
 use Rattle.rules.specs.Formulas.{Values}
 use Rattle.rules.specs.Pending.{Pending, kept, valuesAt, dueIn, due, Least, nothing, first, least}
@@ -15,8 +17,8 @@ use Rattle.rules.specs.Runner.{Runner, joined}
 use Rattle.rules.specs.Session.{Session, driven, woken, FitSession}
 use Rattle.rules.specs.Dump.{startBytes, advanceBytes}
 use Rattle.rules.specs.Calls.{Progress, Answer, refused, quiet, stopReached, moved, answered, cycle, cycles, started, start, advanceTo, advance, leaves}
-use Rattle.table.proofs.Outcomes.{split, Gives, gives-then}
-use Rattle.table.proofs.Changes.{each-more, neither, later-kept}
+use Rattle.table.proofs.Outcomes.{Gives, gives-then}
+use Rattle.table.proofs.Changes.{each-more, later-kept}
 use Rattle.table.proofs.Orderly.{Orderly, InOrder, AllObedient, orderly-kept, orderly-nothing, joined-orderly}
 use Rattle.table.proofs.Leasts.{none-earlier, something-due, later-than}
 

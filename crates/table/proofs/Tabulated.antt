@@ -21,6 +21,9 @@ module _ {A : Type 0} where
   at-tabulate f d i (suc n) zero l = ap f (omega arith)
   at-tabulate f d i (suc n) (suc k) l = at-tabulate f d (suc i) n k (omega arith) ∙ ap f (omega arith)
 
+  pub at-tabulated : (f : ℕ → A) (d : A) (n k : ℕ) → k < n → getD (tabulate f 0 n) k d ≡ f k
+  at-tabulated f d n k l = at-tabulate f d 0 n k l ∙ ap f (omega arith)
+
   pub map-tabulate : {B : Type 0} (f : B → A) (g : ℕ → A) (d : B) (l : List B) (i : ℕ)
       → ((k : ℕ) → k < length l → f (getD l k d) ≡ g (i + k)) → map f l ≡ tabulate g i (length l)
   unfolding tabulate
@@ -29,11 +32,6 @@ module _ {A : Type 0} where
       ap₂ (λ x xs. x ∷ xs)
       (h 0 (omega arith) ∙ ap g (omega arith))
       (map-tabulate f g d l (suc i) (λ k m. h (suc k) (omega arith) ∙ ap g (omega arith)))
-
-  pub at-map : {B : Type 0} (f : B → A) (l : List B) (k : ℕ) (b : B) (a : A) → k < length l → getD (map f l) k a ≡ f (getD l k b)
-  at-map f [] k b a h = absurd (omega arith)
-  at-map f (c ∷ l) zero b a h = refl
-  at-map f (c ∷ l) (suc k) b a h = at-map f l k b a (omega arith)
 
 pub bit-zero : (p : ℕ) → bit 0 p ≡ false
 unfolding bit

@@ -5,11 +5,12 @@ use mathlib.Core.Path.{_≡_, refl, sym, _∙_, ap}
 use mathlib.Core.Bool.{Bool, true, false, true≢false}
 use mathlib.Core.List.{List, [], _∷_}
 use lib.ListN.{length, getD}
+use Rattle.laws.proofs.Cases.{split}
 use Rattle.rules.specs.Outcome.{Outcome, gives, _then_}
 use Rattle.rules.specs.Formulas.{Values}
 use Rattle.rules.specs.Pending.{Pending}
 use Rattle.rules.specs.Runner.{Left, Runner, over, joined}
-use Rattle.table.proofs.Outcomes.{split, onward₂}
+use Rattle.table.proofs.Outcomes.{onward₂}
 use Rattle.table.proofs.Overlays.{length-over, over-other, over-same}
 
 -- each from what the one before left

@@ -5,13 +5,14 @@ use mathlib.Core.Path.{_≡_, refl, _∙_}
 use mathlib.Core.Bool.{Bool}
 use mathlib.Core.List.{List, [], _∷_}
 use lib.ListN.{length}
+use Rattle.laws.proofs.Cases.{split}
 use Rattle.syntax.specs.Circuit.{Formula, signal, constant, negated, combined, Actions, done, assign, branch, null}
 use Rattle.rules.specs.Outcome.{gives, _then_}
 use Rattle.rules.specs.Formulas.{Values, value, size}
 use Rattle.rules.specs.Pending.{Pending, change, post}
 use Rattle.rules.specs.Statements.{after, steps}
 use Rattle.rules.specs.Sized.{instructions}
-use Rattle.table.proofs.Outcomes.{split, onward, onward₂}
+use Rattle.table.proofs.Outcomes.{onward, onward₂}
 use Rattle.table.specs.Instructions.{Instruction, negation, binary}
 use Rattle.table.specs.Machine.{does, walk}
 use Rattle.table.specs.Translation.{formulaCode, code}

@@ -8,8 +8,10 @@ use lib.Dec.{ltb}
 use lib.ListN.{length, length-append}
 use borrow.Author.Tests.{ltb-false}
 use Rattle.laws.specs.Text.{bytes}
+use Rattle.laws.proofs.Cases.{split}
 use Rattle.words.specs.Token.{Name}
-use Rattle.rules.specs.Sizes.{mostSignals, longest, mostCycles, bufferBytes}
+use Rattle.words.specs.Unit.{longest}
+use Rattle.rules.specs.Sizes.{mostSignals, mostCycles, bufferBytes}
 use Rattle.rules.specs.Outcome.{Outcome, refuses, gives}
 use Rattle.rules.specs.Formulas.{Values, differ}
 use Rattle.rules.specs.Dump.{LF, variables, header, digits, decimal, all, startBytes, changed, headed, advanceBytes}
@@ -17,7 +19,6 @@ use Rattle.rules.specs.Pending.{Least, nothing, first, least}
 use Rattle.rules.specs.Runner.{Runner}
 use Rattle.rules.specs.Session.{Session}
 use Rattle.rules.specs.Calls.{Progress, Answer, refused, quiet, stopReached, moved, answered, cycles, started, start, advanceTo, advance}
-use Rattle.table.proofs.Outcomes.{split}
 use Rattle.table.proofs.Sessions.{AnswersFit}
 
 -- names are at most 32 bytes
@@ -45,7 +46,7 @@ header-fits entity names e h n =
       variables-length 0 names h,
     )
 
-all-length : (k : ℕ) (vs : Values) → length (all k vs) ≡ 3 * length vs
+pub all-length : (k : ℕ) (vs : Values) → length (all k vs) ≡ 3 * length vs
 unfolding all
 all-length k [] = refl
 all-length k (v ∷ vs) = omega (arith, all-length (suc k) vs)

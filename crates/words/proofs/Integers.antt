@@ -1,6 +1,6 @@
 -- The value of a run of digits, one digit after the other.
 -- Assumes nothing.
-use mathlib.Core.Path.{_≡_, refl, sym, ap, _∙_}
+use mathlib.Core.Path.{_≡_, sym, _∙_}
 use mathlib.Core.List.{List, [], _∷_}
 use Prim.Native.Nat.{ℕ, _+_, _*_, _<_, _≤_}
 use native.Mathlib.Omega.{arith}
@@ -8,8 +8,8 @@ use native.Mathlib.Nat.{le-refl, le-trans}
 use borrow.Author.Tests.{le-leb, lt-leb}
 use lib.ListN.{length, drop, getD, drop-of-length-le}
 use Rattle.laws.proofs.Lists.{uncons}
-use Rattle.words.specs.Integer.{digitOf, valueFrom, valueOf, largest, amountOf}
-use Rattle.words.specs.declared.integer.Amount.{Amount}
+use Rattle.words.specs.Unit.{longest}
+use Rattle.words.specs.Integer.{digitOf, valueFrom, valueOf, amountOf}
 use Rattle.words.specs.declared.integer.Amount.the-variants.{Small, Large}
 
 grows : (a : ℕ) (s : List ℕ) → a ≤ valueFrom a s
@@ -21,8 +21,8 @@ module _ (s : List ℕ) (a i : ℕ) (whole : valueFrom a (drop i s) ≡ valueOf 
   pub value-on : i < length s → (d : ℕ) → d ≡ digitOf (getD s i 0) → valueFrom (a * 10 + d) (drop (i + 1) s) ≡ valueOf s
   value-on h d e = rw e (sym (rw (uncons s i 0 h)) ∙ whole)
 
-  pub value-large : largest < a → Large ≡ amountOf s
-  value-large h = let g : largest < valueOf s = omega (arith, whole, grows a (drop i s)) in rw (lt-leb _ _ g)
+  pub value-large : longest < a → Large ≡ amountOf s
+  value-large h = let g : longest < valueOf s = omega (arith, whole, grows a (drop i s)) in rw (lt-leb _ _ g)
 
-  pub value-small : length s ≤ i → a ≤ largest → Small a ≡ amountOf s
+  pub value-small : length s ≤ i → a ≤ longest → Small a ≡ amountOf s
   value-small h l = let e : a ≡ valueOf s = rw (drop-of-length-le s h) at whole in rw (← e, le-leb _ _ l)

@@ -1,6 +1,6 @@
 -- What a byte is among the letters: its lower case and its digit in a word's number.
 -- Assumes nothing.
-use mathlib.Core.Path.{_≡_, refl, sym, _∙_}
+use mathlib.Core.Path.{_≡_}
 use Prim.Native.Nat.{ℕ, _+_, _-_, _<_, _≤_}
 use native.Mathlib.Omega.{arith}
 use Rattle.laws.proofs.Ranges.{Ranged, ranged, below, inside, above}

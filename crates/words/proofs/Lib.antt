@@ -5,3 +5,4 @@ pub mod Same
 pub mod Distinct
 pub mod Integers
 pub mod Units
+pub mod Times

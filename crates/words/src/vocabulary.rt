@@ -178,19 +178,22 @@ pub fn lower(byte: u8) -> u8
     }
 }
 
-// Two words are the same, up to the case of their letters.
+// Two words are the same, up to the case of their letters. Names that are alike mostly differ at their ends, so it goes from the last byte to the first;
+// and most bytes are the same in their case too, so the case is looked at only where they are not.
 pub fn same_word(one: &[u8], other: &[u8]) -> bool
     ensures { λ r. ⌜ r ≡ sameWord (now (one .entry)) (now (other .entry)) ⌝ }
 {
     if one.len() != other.len() {
         return false;
     }
-    let mut i = 0;
-    while i < one.len() {
-        if lower(one[i]) != lower(other[i]) {
-            return false;
+    let mut i = one.len();
+    while 0 < i {
+        i -= 1;
+        if one[i] != other[i] {
+            if lower(one[i]) != lower(other[i]) {
+                return false;
+            }
         }
-        i += 1;
     }
     true
 }

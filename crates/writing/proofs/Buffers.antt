@@ -1,16 +1,12 @@
 -- Bytes written behind bytes. Assumes nothing.
-use Prim.Native.Nat.{ℕ, zero, suc, _+_, _*_, _-_, _<_, _≤_}
+use Prim.Native.Nat.{ℕ, _+_, _-_}
 use mathlib.Core.Path.{_≡_, refl, ap, sym, _∙_}
 use mathlib.Core.List.{List, [], _∷_, _++_}
-use mathlib.Core.Bool.{Bool, true, false}
 use native.Mathlib.Omega.{arith}
-use lib.ListN.{length, getD, set, take, drop, length-append, length-take, length-set}
-use lib.Seq.{sets, length-sets, take-suc, take-all}
+use lib.ListN.{length, set, length-append, length-set}
+use lib.Seq.{length-sets}
+use Rattle.laws.proofs.Lists.{sets-append}
 use Rattle.writing.specs.Inside.Written.{Writes}
-
-pub sets-append : (l : List ℕ) (i : ℕ) (xs ys : List ℕ) → sets l i (xs ++ ys) ≡ sets (sets l i xs) (i + length xs) ys
-sets-append l i [] ys = ap (λ j. sets l j ys) (omega arith)
-sets-append l i (x ∷ xs) ys = sets-append (set l i x) (suc i) xs ys ∙ ap (λ j. sets (sets (set l i x) (suc i) xs) j ys) (omega arith)
 
 -- first one text, then another behind it
 pub writes-both : (out : List ℕ) (at : ℕ) (xs ys : List ℕ) (m r : ℕ) (mid after : List ℕ)
@@ -28,12 +24,6 @@ pub writes-length : (out : List ℕ) (at : ℕ) (xs : List ℕ) (r : ℕ) (after
 writes-length out at xs r after w = ap length (w .bytes) ∙ length-sets out at xs
 
 -- a copy that is under way
-pub copied-more : (out : List ℕ) (at i : ℕ) (text mid : List ℕ) → i < length text → mid ≡ sets out at (take i text)
-    → set mid (at + i) (getD text i 0) ≡ sets out at (take (suc i) text)
-copied-more out at i text mid l e =
-    rw (take-suc text i 0 l, sets-append out at (take i text) (getD text i 0 ∷ []), ← e)
-    (ap (λ j. set mid (at + j) (getD text i 0)) (sym (length-take i text ∙ omega arith)))
-
 pub writes-byte : (out : List ℕ) (at b : ℕ) → Writes out at (b ∷ []) (at + 1) (set out at b)
 writes-byte out at b = record { bytes = refl; end = refl }
 

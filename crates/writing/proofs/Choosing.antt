@@ -1,5 +1,5 @@
 -- The lines of the signals whose values differ are those whose bits are set in a word. Assumes nothing.
-use Prim.Native.Nat.{ℕ, zero, suc, _+_, _*_, _-_, _/_, _%_, _^_, _<_, _≤_}
+use Prim.Native.Nat.{ℕ, zero, suc, _+_, _*_, _-_, _/_, _^_, _<_, _≤_}
 use mathlib.Core.Path.{_≡_, refl, ap, sym, subst, _∙_}
 use mathlib.Core.List.{List, [], _∷_, _++_, append-nil, append-assoc}
 use mathlib.Core.Bool.{Bool, true, false}
@@ -7,15 +7,15 @@ use native.Mathlib.Numerals.{add-one}
 use native.Mathlib.Omega.{arith}
 use lib.Bits.{bitXor, xor-lt}
 use lib.Count.{trailingZeros}
-use lib.ListN.{length, getD, set, length-append}
+use lib.ListN.{length, set, length-append}
 use lib.Pow.{pow-mono}
 use Rattle.laws.specs.Pick.{pick}
 use Rattle.laws.specs.Text.{bytes}
+use Rattle.laws.proofs.Cases.{split}
 use Rattle.rules.specs.Formulas.{Values, differ}
 use Rattle.rules.specs.Dump.{LF, decimal, shown, changed, headed, advanceBytes}
 use Rattle.table.specs.Table.{bit, tabulate}
 use Rattle.table.proofs.Tabulated.{bit-zero, length-tabulate}
-use Rattle.table.proofs.Outcomes.{split}
 use Rattle.cells.specs.Cells.{valueOf, values}
 use Rattle.cells.proofs.Tabulating.{tabulate-more}
 use Rattle.cells.proofs.Columns.{length-values}

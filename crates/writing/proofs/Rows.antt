@@ -1,16 +1,16 @@
 -- The lines of signals, one behind the other. Assumes nothing.
-use Prim.Native.Nat.{ℕ, zero, suc, _+_, _*_, _-_, _<_, _≤_}
-use mathlib.Core.Path.{_≡_, refl, ap, sym, _∙_}
-use mathlib.Core.List.{List, [], _∷_, _++_, append-assoc, append-nil}
-use mathlib.Core.Bool.{Bool, true, false}
+use Prim.Native.Nat.{ℕ, zero, suc, _+_, _*_, _-_, _≤_}
+use mathlib.Core.Path.{_≡_, refl, ap, _∙_}
+use mathlib.Core.List.{List, [], _∷_, _++_}
+use mathlib.Core.Bool.{Bool}
 use native.Mathlib.Numerals.{add-one}
 use native.Mathlib.Omega.{arith}
-use lib.ListN.{length, getD, set, length-append}
-use lib.Seq.{sets}
+use lib.ListN.{length, set}
 use Rattle.rules.specs.Formulas.{Values}
 use Rattle.rules.specs.Dump.{digit, shown, all}
 use Rattle.table.specs.Table.{tabulate}
 use Rattle.table.proofs.Tabulated.{length-tabulate}
+use Rattle.table.proofs.Written.{all-length}
 use Rattle.cells.specs.Cells.{truth, valueOf, values}
 use Rattle.cells.proofs.Tabulating.{tabulate-more}
 use Rattle.cells.proofs.Columns.{length-values}
@@ -28,11 +28,6 @@ writes-line out at k v l =
     let b : at + 1 ≡ suc at = omega arith in
     let c : at + 2 ≡ suc (suc at) = omega arith in
     record { bytes = rw (b, c, digit-of v l); end = refl }
-
-pub length-all : (k : ℕ) (vs : Values) → length (all k vs) ≡ 3 * length vs
-unfolding all
-length-all k [] = refl
-length-all k (v ∷ vs) = omega (arith, length-all (suc k) vs)
 
 all-append : (i : ℕ) (vs : Values) (v : Bool) → all i (vs ++ (v ∷ [])) ≡ all i vs ++ shown (i + length vs) v
 unfolding all
@@ -60,4 +55,4 @@ module _ (out : List ℕ) (at : ℕ) (cs : List ℕ) where
   lines-more k m r mid after a b = rw (add-one k, all-more cs k) (writes-both out at (all 0 (values k cs)) (shown k (valueOf cs k)) m r mid after a b)
 
   pub lines-place : (k m : ℕ) (mid : List ℕ) → Writes out at (all 0 (values k cs)) m mid → m ≡ at + 3 * k
-  lines-place k m mid w = omega (arith, w .end, length-all 0 (values k cs), length-values k cs)
+  lines-place k m mid w = omega (arith, w .end, all-length 0 (values k cs), length-values k cs)

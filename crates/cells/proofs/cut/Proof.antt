@@ -1,8 +1,6 @@
 -- `cells::cut` meets its contract: from n on all changes come at t or later, and are gone. Assumes nothing.
-use Prim.Native.Nat.{ℕ, _+_, _*_, _-_, _/_, _≤_, _<_}
-use mathlib.Core.Path.{_≡_, refl, sym, _∙_}
+use Prim.Native.Nat.{_-_}
 use native.Mathlib.Omega.{arith}
-use lib.ListN.{length, getD, set, length-set}
 use Rattle.cells.proofs.Cutting.{Cutting, cutting-none, cutting-more, cut-found, cut-none}
 use Rattle.cells.proofs.cut.Statement.{statement}
 use Rattle.cells.proofs.cut.Tie as tie

@@ -1,11 +1,7 @@
 -- `cells::earlier` meets its contract: the signal has no change, a later one, one at the time, or an earlier one.
 -- Assumes nothing.
-use Prim.Native.Nat.{_+_, _*_, _/_}
-use mathlib.Core.Path.{_≡_, ap, sym}
 use native.Mathlib.Omega.{arith}
 use borrow.Author.Needs.{needs}
-use lib.ListN.{getD}
-use Rattle.cells.specs.Inside.Moves.{Seen}
 use Rattle.cells.proofs.Nearest.{seen-none, seen-first, seen-later, seen-also, seen-earlier}
 use Rattle.cells.proofs.earlier.Statement.{statement}
 use Rattle.cells.proofs.earlier.Tie as tie

@@ -1,8 +1,6 @@
 -- `cells::post` meets its contract: what is left after the cut, and the new change behind it. Assumes nothing.
-use Prim.Native.Nat.{ℕ, _+_, _*_, _-_, _/_, _≤_, _<_}
-use mathlib.Core.Path.{_≡_, refl, sym, _∙_}
+use Prim.Native.Nat.{_+_, _*_, _-_}
 use native.Mathlib.Omega.{arith}
-use lib.ListN.{length, getD, set, length-set}
 use Rattle.cells.specs.Cells.{countOf, truth}
 use Rattle.cells.proofs.Posting.{rising-cells, post-refused, post-done}
 use borrow.Author.Needs.{needs}

@@ -1,8 +1,7 @@
 -- `cells::shift` meets its contract: the cells below i are moved. Assumes nothing.
-use Prim.Native.Nat.{ℕ, _+_, _*_, _-_, _/_, _≤_, _<_}
-use mathlib.Core.Path.{_≡_, refl, sym, _∙_}
+use Prim.Native.Nat.{_-_, _≤_, _<_}
+use mathlib.Core.Path.{_≡_}
 use native.Mathlib.Omega.{arith}
-use lib.ListN.{length, getD, set, length-set}
 use Rattle.cells.proofs.Cutting.{shifted-none, shifted-more}
 use Rattle.cells.specs.Inside.Moves.{Shifted}
 use Rattle.cells.proofs.shift.Statement.{statement}

@@ -1,9 +1,6 @@
 -- `cells::take` meets its contract: nothing is due, or the first change is. Assumes nothing.
-use Prim.Native.Nat.{ℕ, _+_, _*_, _-_, _/_, _≤_, _<_}
-use mathlib.Core.Path.{_≡_, refl, sym, _∙_}
+use Prim.Native.Nat.{_-_}
 use native.Mathlib.Omega.{arith}
-use lib.ListN.{length, getD, set, length-set}
-use Rattle.cells.specs.Cells.{countOf, truth}
 use Rattle.cells.proofs.Taking.{took-none, took-later, took-done}
 use borrow.Author.Needs.{needs}
 use Rattle.cells.proofs.take.Statement.{statement}

@@ -16,7 +16,7 @@ use Rattle.syntax.specs.Tree.{Declaration, Sensitivity, Process, Design, declar
 use Rattle.table.specs.Instructions.{Instruction}
 use Rattle.names.specs.Judge.{numberOf}
 use Rattle.names.specs.CircuitOf.{onceOperator, chainOperator, delayFemtoseconds}
-use Rattle.layout.specs.TableWords.{signalsAt, processesAt, instructionsAt, initialFrom, listenersFrom, endsFrom, operationsFrom, delaysFrom, tableSize, operationWord, delayWord}
+use Rattle.layout.specs.TableWords.{signalsAt, processesAt, instructionsAt, initialFrom, listenersFrom, operationsFrom, delaysFrom, tableSize, operationWord, delayWord}
 
 -- the words, the address of the next instruction, the signals declared and how many processes have been opened
 pub record Draft : Type 0 where

@@ -7,14 +7,13 @@ use Rattle.layout.specs.TableWords.{operationWord}
 use Rattle.look.proofs.Looks.{seen-there}
 use Rattle.reading.specs.declared.Spot.{Spot}
 use Rattle.reading.specs.Inside.Reading.{Ready, Reads, aMore}
-use Rattle.reading.proofs.Generic.{reads-off, span, held, ready-token, ready-pass, ready-reads, ready-at}
+use Rattle.reading.proofs.Generic.{reads-off, span, ready-token, ready-pass, ready-reads, ready-at}
 use Rattle.expressions.proofs.Expressions.{primary-name, primary-literal, primary-none, primary-deep, primary-bracket, factor-plain, factor-not, expression-then, tail-low, tail-high, tail-once, tail-chain, chain-none, chain-more}
-use Prim.Native.Nat.{ℕ, _+_, _-_, _*_, _<_, _≤_}
-use mathlib.Core.Path.{_≡_, refl, sym, ap, _∙_}
-use mathlib.Core.Logic.{⊎-elim}
+use Prim.Native.Nat.{ℕ, _+_, _-_, _*_, _<_}
+use mathlib.Core.Path.{_≡_, refl, sym, ap}
 use native.Mathlib.Omega.{arith}
 use borrow.Author.Needs.{needs}
-use lib.ListN.{length, getD}
+use lib.ListN.{length}
 use borrow.Fn.Kinds.{In}
 use borrow.Fn.PlainCycle.{Measures, is, falls, and}
 use Rattle.expressions.proofs.chain.Reads as chain
@@ -34,6 +33,7 @@ use Rattle.expressions.proofs.tail.Kinds as tail-kinds
 use Rattle.expressions.proofs.+chain+expression+factor+primary+tail.Lts-tail as tail-lts
 use Rattle.ledger.proofs.count.Reads as count-reads
 use Rattle.ledger.proofs.read_signal.Reads as read-signal-reads
+use Rattle.ledger.proofs.Keeping.{held}
 use Rattle.look.proofs.peek.Reads as peek-reads
 use Rattle.emission.proofs.binary.Reads as binary-reads
 use Rattle.emission.proofs.emit.Reads as emit-reads

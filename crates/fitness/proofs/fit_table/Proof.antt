@@ -2,7 +2,7 @@
 -- Assumes nothing.
 use borrow.Author.Tests.{not-true, not-false}
 use borrow.Author.Needs.{needs}
-use Rattle.fitness.proofs.Deciding.{decides-no}
+use Rattle.laws.proofs.Deciding.{decides-no}
 use Rattle.fitness.proofs.Whole.{fit-few, fit-used, fit-unused, fit-rows, fit-legals, fit-sounds, fit-alone, words-are-fit}
 use Rattle.fitness.proofs.fit_table.Statement.{statement}
 use Rattle.fitness.proofs.fit_table.Tie as tie

@@ -3,7 +3,7 @@
 use Prim.Native.Nat.{_-_, _≤_}
 use borrow.Author.Needs.{needs}
 use native.Mathlib.Omega.{arith}
-use Rattle.fitness.proofs.Deciding.{decides-no}
+use Rattle.laws.proofs.Deciding.{decides-no}
 use Rattle.fitness_session.proofs.Climbing.{Climbs, climb-none, climb-more, climb-bad, climb-far, climb-done}
 use Rattle.fitness_session.proofs.changes.Statement.{statement}
 use Rattle.fitness_session.proofs.changes.Tie as tie

@@ -4,7 +4,7 @@ use mathlib.Core.Path.{refl}
 use borrow.Author.Tests.{not-true, not-false}
 use borrow.Author.Needs.{needs}
 use native.Mathlib.Omega.{arith}
-use Rattle.fitness.proofs.Deciding.{decides-no}
+use Rattle.laws.proofs.Deciding.{decides-no}
 use Rattle.fitness.proofs.Whole.{fits, fit-few, fit-rows, fit-ready, fit-alone}
 use Rattle.fitness_session.proofs.Whole.{fit-head, fit-signals, session-is-fit, for-table}
 use Rattle.fitness_session.proofs.fit_session.Statement.{statement}

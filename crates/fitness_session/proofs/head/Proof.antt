@@ -3,7 +3,7 @@
 use borrow.Author.Tests.{not-true, not-false}
 use borrow.Author.Needs.{needs}
 use native.Mathlib.Omega.{arith}
-use Rattle.fitness.proofs.Deciding.{decides-no}
+use Rattle.laws.proofs.Deciding.{decides-no}
 use Rattle.fitness_session.proofs.head.Statement.{statement}
 use Rattle.fitness_session.proofs.head.Tie as tie
 

@@ -2,7 +2,7 @@
 -- Assumes nothing.
 use borrow.Author.Needs.{needs}
 use native.Mathlib.Omega.{arith}
-use Rattle.fitness.proofs.Deciding.{decides-no}
+use Rattle.laws.proofs.Deciding.{decides-no}
 use Rattle.fitness_session.proofs.Whole.{most-few}
 use Rattle.fitness_session.proofs.signal.Statement.{statement}
 use Rattle.fitness_session.proofs.signal.Tie as tie

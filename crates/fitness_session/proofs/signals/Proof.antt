@@ -5,7 +5,7 @@ use borrow.Author.Count.{below-more}
 use borrow.Author.Tests.{not-true, not-false}
 use borrow.Author.Needs.{needs}
 use native.Mathlib.Omega.{arith}
-use Rattle.fitness.proofs.Deciding.{decides-yes, decides-no}
+use Rattle.laws.proofs.Deciding.{decides-yes, decides-no}
 use Rattle.fitness_session.specs.Inside.Parts.{Signals}
 use Rattle.fitness_session.proofs.signals.Statement.{statement}
 use Rattle.fitness_session.proofs.signals.Tie as tie

@@ -1,15 +1,15 @@
 -- `heading::copy_lower` meets its contract: the first i bytes are copied.
 -- Assumes nothing.
-use Prim.Native.Nat.{ℕ, suc, _+_, _-_, _*_, _<_, _≤_}
-use mathlib.Core.Path.{_≡_, refl, sym, ap, _∙_, subst}
+use Prim.Native.Nat.{_-_, _≤_}
+use mathlib.Core.Path.{_≡_, refl, ap, _∙_}
 use native.Mathlib.Omega.{arith}
 use borrow.Author.Needs.{needs}
 use native.Mathlib.Numerals.{add-one}
 use lib.ListN.{length, take}
 use lib.Seq.{sets, length-sets, take-all}
+use Rattle.laws.proofs.Lists.{copied-more}
 use Rattle.words.specs.Vocabulary.{lower}
-use Rattle.writing.proofs.Buffers.{copied-more}
-use Rattle.heading.proofs.Rows.{lower-at, lower-length, variables-more, line-written, variable-length, namesOn, names-first, names-none, names-next, Onward, onward-first, onward-more, onward-last, line-fits, header-written, survey-shelf, survey-names, survey-fits, survey-shows}
+use Rattle.heading.proofs.Rows.{lower-at, lower-length}
 use Rattle.heading.proofs.copy_lower.Statement.{statement}
 use Rattle.heading.proofs.copy_lower.Tie as tie
 

@@ -1,12 +1,10 @@
 -- `heading::copy_name` meets its contract: a part of the text.
 -- Assumes nothing.
-use Prim.Native.Nat.{ℕ, suc, _+_, _-_, _*_, _<_, _≤_}
-use mathlib.Core.Path.{_≡_, refl, sym, ap, _∙_, subst}
+use Prim.Native.Nat.{_-_}
 use native.Mathlib.Omega.{arith}
 use borrow.Author.Needs.{needs}
-use lib.ListN.{length}
 use Rattle.look.specs.Inside.Looks.{part, nameAt}
-use Rattle.heading.proofs.Rows.{lower-at, lower-length, variables-more, line-written, variable-length, namesOn, names-first, names-none, names-next, Onward, onward-first, onward-more, onward-last, line-fits, header-written, survey-shelf, survey-names, survey-fits, survey-shows}
+use Rattle.heading.proofs.Rows.{lower-length}
 use Rattle.heading.proofs.copy_name.Statement.{statement}
 use Rattle.heading.proofs.copy_name.Tie as tie
 

@@ -1,10 +1,8 @@
 -- `heading::header` meets its contract: 11, then the text, then the bytes.
 -- Assumes nothing.
-use Prim.Native.Nat.{ℕ, suc, _+_, _-_, _*_, _<_, _≤_}
-use mathlib.Core.Path.{_≡_, refl, sym, ap, _∙_, subst}
-use native.Mathlib.Omega.{arith}
+use Prim.Native.Nat.{_-_}
+use mathlib.Core.Path.{refl}
 use borrow.Author.Needs.{needs}
-use Rattle.reader.specs.Inside.Designs.{Survey}
 use Rattle.heading.specs.Headed.{short, turned}
 use Rattle.heading.proofs.Rows.{survey-refused, survey-accepted}
 use Rattle.heading.proofs.header.Statement.{statement}

@@ -1,12 +1,12 @@
 -- `heading::lines` meets its contract: one after the other.
 -- Assumes nothing.
-use Prim.Native.Nat.{ℕ, suc, _+_, _-_, _*_, _<_, _≤_}
-use mathlib.Core.Path.{_≡_, refl, sym, ap, _∙_, subst}
+use Prim.Native.Nat.{_+_, _-_, _≤_}
+use mathlib.Core.Path.{_≡_, refl}
 use native.Mathlib.Omega.{arith}
 use borrow.Author.Needs.{needs}
 use lib.ListN.{length}
 use Rattle.rules.specs.Dump.{variables}
-use Rattle.heading.proofs.Rows.{lower-at, lower-length, variables-more, line-written, variable-length, namesOn, names-first, names-none, names-next, Onward, onward-first, onward-more, onward-last, line-fits, header-written, survey-shelf, survey-names, survey-fits, survey-shows}
+use Rattle.heading.proofs.Rows.{namesOn, names-first, Onward, onward-first, onward-more, onward-last, line-fits}
 use Rattle.heading.proofs.lines.Statement.{statement}
 use Rattle.heading.proofs.lines.Tie as tie
 

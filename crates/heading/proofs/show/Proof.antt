@@ -1,10 +1,10 @@
 -- `heading::show` meets its contract: part by part.
 -- Assumes nothing.
-use Prim.Native.Nat.{ℕ, suc, _+_, _-_, _*_, _<_, _≤_}
-use mathlib.Core.Path.{_≡_, refl, sym, ap, _∙_, subst}
+use Prim.Native.Nat.{_-_}
+use mathlib.Core.Path.{ap, _∙_}
 use native.Mathlib.Omega.{arith}
 use borrow.Author.Needs.{needs}
-use lib.ListN.{length, getD}
+use lib.ListN.{getD}
 use Rattle.words.specs.Token.{ENTITY}
 use Rattle.look.specs.Inside.Looks.{lookOf}
 use Rattle.ledger.specs.Inside.Standing.{namesFrom}
@@ -12,7 +12,7 @@ use Rattle.reading.specs.declared.Spot.{Spot}
 use Rattle.reader.specs.Inside.Designs.{beginning}
 use Rattle.reading.proofs.Words.{worded}
 use Rattle.reader.proofs.Designs.{look-span}
-use Rattle.heading.proofs.Rows.{lower-at, lower-length, variables-more, line-written, variable-length, namesOn, names-first, names-none, names-next, Onward, onward-first, onward-more, onward-last, line-fits, header-written, survey-shelf, survey-names, survey-fits, survey-shows}
+use Rattle.heading.proofs.Rows.{header-written, survey-shelf, survey-fits, survey-shows}
 use Rattle.heading.proofs.show.Statement.{statement}
 use Rattle.heading.proofs.show.Tie as tie
 

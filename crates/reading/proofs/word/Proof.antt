@@ -1,11 +1,8 @@
 -- `reading::word` meets its contract: case by case.
 -- Assumes nothing.
-use mathlib.Core.Path.{_≡_, refl, sym, ap, _∙_}
-use native.Mathlib.Omega.{arith}
 use borrow.Author.Needs.{needs}
 use borrow.Author.Tests.{eq-eqb, ne-eqb}
-use Rattle.look.specs.declared.Look.{Look}
-use Rattle.reading.specs.Inside.Spots.{wordFrom, wordOf}
+use Rattle.reading.specs.Inside.Spots.{wordOf}
 use Rattle.reading.proofs.word.Statement.{statement}
 use Rattle.reading.proofs.word.Tie as tie
 

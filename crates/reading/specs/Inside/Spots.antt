@@ -1,13 +1,12 @@
 -- Where reading stands: the grammar's machine, the judge and the draft of the table, from a spot of a text on.
 -- Assumes nothing: these are definitions.
-use Prim.Native.Nat.{ℕ, _+_, _<_, _≤_}
+use Prim.Native.Nat.{ℕ, _<_}
 use mathlib.Core.Path.{_≡_}
 use mathlib.Core.Bool.{Bool, false, _||_}
-use mathlib.Core.List.{List, [], _∷_, map}
+use mathlib.Core.List.{List, map}
 use lib.Dec.{eqb}
 use lib.ListN.{length, getD, drop}
 use Rattle.laws.specs.Pick.{pick}
-use Rattle.words.specs.Token.{Token}
 use Rattle.lexis.specs.Token.{Placed}
 use Rattle.lexis.proofs.Scans.{tokensAt}
 use Rattle.syntax.specs.Tree.{Design}

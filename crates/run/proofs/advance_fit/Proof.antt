@@ -1,5 +1,5 @@
 -- `run::advance_fit` meets its contract: the advance on loaded cells, which are stored where it moved. Assumes nothing.
-use mathlib.Core.Path.{_≡_, refl}
+use mathlib.Core.Path.{refl}
 use mathlib.Core.List.{[]}
 use native.Mathlib.Omega.{arith}
 use borrow.Author.Needs.{needs}

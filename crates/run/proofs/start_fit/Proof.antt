@@ -1,5 +1,5 @@
 -- `run::start_fit` meets its contract: the start on cells, which are stored where it moved. Assumes nothing.
-use mathlib.Core.Path.{_≡_, refl}
+use mathlib.Core.Path.{refl}
 use mathlib.Core.List.{[]}
 use native.Mathlib.Omega.{arith}
 use borrow.Author.Needs.{needs}

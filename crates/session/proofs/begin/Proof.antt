@@ -1,12 +1,11 @@
 -- `session::begin` meets its contract: refused, or moved. Assumes nothing.
-use mathlib.Core.Path.{_≡_, refl}
+use mathlib.Core.Path.{refl}
 use native.Mathlib.Omega.{arith}
 use borrow.Author.Needs.{needs}
 use Rattle.rules.specs.Calls.{start}
 use Rattle.table.specs.Table.{runners}
 use Rattle.layout.proofs.Tables.{decodeTable}
 use Rattle.machine.specs.Inside.Steps.{signalsOf}
-use Rattle.machine.proofs.Fetching.{held}
 use Rattle.cycles.proofs.Waking.{few-processes}
 use Rattle.writing.proofs.Buffers.{writes-length}
 use Rattle.session.proofs.Goes.{goes-refused, goes-moved}

@@ -1,6 +1,5 @@
 -- `session::forward` meets its contract: quiet, stop reached, refused or moved. Assumes nothing.
 use Prim.Native.Nat.{_-_}
-use mathlib.Core.Path.{_≡_, refl}
 use native.Mathlib.Omega.{arith}
 use borrow.Author.Needs.{needs}
 use Rattle.rules.specs.Calls.{advance}

@@ -1,10 +1,10 @@
 -- What a start and an advance on cells answer and leave: o is what the rules say. Assumes nothing.
-use Prim.Native.Nat.{ℕ, _+_, _^_, _<_, _≤_}
+use Prim.Native.Nat.{ℕ, _^_, _<_}
 use mathlib.Core.Path.{_≡_}
 use mathlib.Core.Bool.{true}
 use mathlib.Core.List.{List, []}
-use lib.ListN.{length, getD, replicate}
-use Rattle.rules.specs.Calls.{Moved, refused, quiet, stopReached, moved}
+use lib.ListN.{length, replicate}
+use Rattle.rules.specs.Calls.{refused, quiet, stopReached, moved}
 use Rattle.rules.specs.Calls as calls
 use Rattle.table.specs.Table.{bit}
 use Rattle.layout.proofs.Tables.{decodeTable}

@@ -16,7 +16,7 @@ use Rattle.reading.specs.declared.Spot.{Spot}
 use Rattle.reading.specs.Inside.Spots.{starter}
 use Rattle.reading.specs.Inside.Reading.{Ready, Reads, someStatements}
 use Rattle.reading.proofs.Words.{worded}
-use Rattle.reading.proofs.Generic.{reads-off, held, ready-token, ready-pass, ready-word, ready-reads, ready-at}
+use Rattle.reading.proofs.Generic.{reads-off, ready-token, ready-pass, ready-word, ready-reads, ready-at}
 use Rattle.statements.proofs.Returns.{statement-deep, statement-if, statement-null, none-stops, statements-none, statements-more, finish-end, finish-else, starter-null, reads-less, stops-at}
 use borrow.Fn.PlainCycle.{Measures, is, falls, and}
 use borrow.Fn.Kinds.{In}
@@ -33,6 +33,7 @@ use Rattle.statements.proofs.statements.Reads as statements
 use Rattle.statements.proofs.statements.Kinds as statements-kinds
 use Rattle.statements.proofs.+conditional+finish+statement+statements.Lts-statements as statements-lts
 use Rattle.ledger.proofs.count.Reads as count-reads
+use Rattle.ledger.proofs.Keeping.{held}
 use Rattle.look.proofs.peek.Reads as peek-reads
 use Rattle.emission.proofs.aim.Reads as aim-reads
 use Rattle.emission.proofs.emit.Reads as emit-reads

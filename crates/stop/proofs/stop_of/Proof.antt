@@ -1,6 +1,6 @@
 -- `stop::stop_of` meets its contract: test by test, and case by case.
 -- Assumes nothing.
-use mathlib.Core.Path.{refl, sym, _∙_}
+use mathlib.Core.Path.{sym, _∙_}
 use borrow.Author.Needs.{needs}
 use borrow.Author.Tests.{eq-eqb, ne-eqb, not-true, not-false}
 use Rattle.stop.specs.Stop.{stopOf}

@@ -1,6 +1,6 @@
 -- `stop::unit_of` meets its contract: one comparison after the other.
 -- Assumes nothing.
-use mathlib.Core.Path.{refl, sym, _∙_}
+use mathlib.Core.Path.{sym, _∙_}
 use borrow.Author.Needs.{needs}
 use Rattle.stop.specs.Stop.{unitOf}
 use Rattle.stop.proofs.unit_of.Statement.{statement}

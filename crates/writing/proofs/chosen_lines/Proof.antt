@@ -1,7 +1,6 @@
 -- `writing::chosen_lines` meets its contract: the lines of the chosen among the first k signals are written. Assumes nothing.
 use Prim.Native.Nat.{_+_, _-_}
 use native.Mathlib.Omega.{arith}
-use borrow.Author.Needs.{needs}
 use lib.Count.{trailingZeros}
 use Rattle.writing.proofs.Buffers.{writes-length}
 use Rattle.writing.proofs.Choosing.{Chosen, chosen-first, chosen-place, chosen-last, step, chosen-more}

@@ -1,6 +1,6 @@
 -- `writing::decimal` meets its contract: the digits behind a place are written, from the last on. Assumes nothing.
-use Prim.Native.Nat.{ℕ, _+_, _-_}
-use mathlib.Core.Path.{_≡_, refl, ap, subst}
+use Prim.Native.Nat.{_+_, _-_}
+use mathlib.Core.Path.{refl, ap, subst}
 use native.Mathlib.Omega.{arith}
 use borrow.Author.Needs.{needs}
 use lib.ListN.{length}

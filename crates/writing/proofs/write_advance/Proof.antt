@@ -1,10 +1,10 @@
 -- `writing::write_advance` meets its contract: nothing where no value differs, else the time and the lines. Assumes nothing.
 use Prim.Native.Nat.{_+_}
-use mathlib.Core.Path.{_≡_, refl, sym, _∙_}
+use mathlib.Core.Path.{_∙_}
 use native.Mathlib.Omega.{arith}
 use borrow.Author.Needs.{needs}
 use lib.Bits.{bitXor}
-use lib.ListN.{length, length-set}
+use lib.ListN.{length-set}
 use Rattle.rules.specs.Dump as dump
 use Rattle.cells.specs.Cells.{values}
 use Rattle.writing.specs.Inside.Written.{chosen}

@@ -1,10 +1,8 @@
 -- `writing::write_start` meets its contract: three texts, one behind the other. Assumes nothing.
-use mathlib.Core.Path.{_≡_, refl}
 use native.Mathlib.Omega.{arith}
 use borrow.Author.Needs.{needs}
 use Rattle.rules.specs.Dump.{startBytes, all}
 use Rattle.cells.specs.Cells.{values}
-use Rattle.cells.proofs.Columns.{length-values}
 use Rattle.writing.proofs.Buffers.{writes-both, writes-length}
 use Rattle.writing.proofs.Rows.{lines-place}
 use Rattle.writing.proofs.write_start.Statement.{statement}

@@ -1,9 +1,8 @@
 -- Bytes written to a buffer from a place on: they stand there, the others stay, and the answer is the place behind them.
 -- Assumes nothing.
-use Prim.Native.Nat.{ℕ, suc, _+_, _-_, _^_, _<_, _≤_}
+use Prim.Native.Nat.{ℕ, suc, _+_, _-_, _^_, _<_}
 use mathlib.Core.Path.{_≡_}
 use mathlib.Core.List.{List, [], _∷_, _++_}
-use mathlib.Core.Bool.{Bool}
 use lib.ListN.{length}
 use lib.Seq.{sets}
 use Rattle.laws.specs.Pick.{pick}

@@ -5,10 +5,10 @@ use mathlib.Core.Path.{_≡_, sym, subst, _∙_}
 use borrow.Author.Tests.{eqb-true, not-true, not-false}
 use borrow.Author.Needs.{needs}
 use native.Mathlib.Omega.{arith}
+use Rattle.laws.proofs.Deciding.{differ}
 use Rattle.layout.proofs.Tables.{decodeTable}
 use Rattle.fitness.specs.Inside.Parts.{processes, instructions}
 use Rattle.fitness.specs.Inside.Drivers.{Owned}
-use Rattle.fitness.proofs.Deciding.{differ}
 use Rattle.fitness.proofs.Kind.{legal-signal}
 use Rattle.fitness.proofs.Reading.{kind-at, rows-low}
 use Rattle.fitness.proofs.Owners.{own-more, own-bad}

@@ -5,11 +5,11 @@ use mathlib.Core.Path.{_≡_, refl, sym, ap, subst, _∙_}
 use borrow.Author.Tests.{not-true, not-false}
 use borrow.Author.Needs.{needs}
 use native.Mathlib.Omega.{arith}
+use Rattle.laws.proofs.Deciding.{differ}
 use Rattle.table.specs.Table.{begins}
 use Rattle.layout.proofs.Tables.{decodeTable}
 use Rattle.fitness.specs.Inside.Parts.{processes, instructions}
 use Rattle.fitness.specs.Inside.Drivers.{Owned}
-use Rattle.fitness.proofs.Deciding.{differ}
 use Rattle.fitness.proofs.Reading.{begins-word, begins-next}
 use Rattle.fitness.proofs.Owners.{own-none}
 use Rattle.fitness.proofs.drivers.owners.Statement.{statement}

@@ -2,7 +2,7 @@
 -- Assumes nothing.
 use borrow.Author.Tests.{leb-true, leb-false}
 use native.Mathlib.Omega.{arith}
-use Rattle.fitness.proofs.Deciding.{decides-yes, decides-no}
+use Rattle.laws.proofs.Deciding.{decides-yes, decides-no}
 use Rattle.fitness.proofs.heights.ahead.Statement.{statement}
 use Rattle.fitness.proofs.heights.ahead.Tie as tie
 

@@ -6,8 +6,8 @@ use lib.ListN.{length-set}
 use borrow.Author.Tests.{not-true, not-false}
 use borrow.Author.Needs.{needs}
 use native.Mathlib.Omega.{arith}
+use Rattle.laws.proofs.Deciding.{differ}
 use Rattle.layout.proofs.Tables.{decodeTable}
-use Rattle.fitness.proofs.Deciding.{differ}
 use Rattle.fitness.proofs.Reading.{kind-at}
 use Rattle.fitness.proofs.Passes.{Done, pass-none, pass-more, pass-back, pass-broken, pass-sound, pass-end, pass-fresh, passed-not}
 use Rattle.fitness.proofs.heights.heights.Statement.{statement}

@@ -5,11 +5,11 @@ use mathlib.Core.Path.{_≡_, refl, sym}
 use borrow.Author.Tests.{not-true, not-false}
 use borrow.Author.Needs.{needs}
 use native.Mathlib.Omega.{arith}
+use Rattle.laws.proofs.Deciding.{decides-yes, decides-no}
 use Rattle.table.specs.Table.{begins}
 use Rattle.layout.proofs.Tables.{decodeTable}
 use Rattle.fitness.specs.Inside.Parts.{Sounds}
 use Rattle.fitness.specs.Inside.Heights.{Fresh}
-use Rattle.fitness.proofs.Deciding.{decides-yes, decides-no}
 use Rattle.fitness.proofs.Reading.{begins-word, begins-next, begins-low}
 use Rattle.fitness.proofs.Passes.{fresh-first, sounds-bad, sounds-more}
 use Rattle.fitness.proofs.heights.sounds.Statement.{statement}

@@ -3,7 +3,7 @@
 use borrow.Author.Tests.{ltb-true, ltb-false}
 use borrow.Author.Needs.{needs}
 use native.Mathlib.Omega.{arith}
-use Rattle.fitness.proofs.Deciding.{decides-no}
+use Rattle.laws.proofs.Deciding.{decides-no}
 use Rattle.fitness.proofs.kinds.legal.Statement.{statement}
 use Rattle.fitness.proofs.kinds.legal.Tie as tie
 

@@ -5,8 +5,8 @@ use borrow.Author.Count.{below-more}
 use borrow.Author.Tests.{not-true, not-false}
 use borrow.Author.Needs.{needs}
 use native.Mathlib.Omega.{arith}
+use Rattle.laws.proofs.Deciding.{decides-yes, decides-no}
 use Rattle.fitness.specs.Inside.Kinds.{Legals}
-use Rattle.fitness.proofs.Deciding.{decides-yes, decides-no}
 use Rattle.fitness.proofs.kinds.legals.Statement.{statement}
 use Rattle.fitness.proofs.kinds.legals.Tie as tie
 

@@ -4,10 +4,10 @@ use Prim.Native.Nat.{_-_, _≤_}
 use mathlib.Core.Path.{_≡_, refl}
 use borrow.Author.Needs.{needs}
 use native.Mathlib.Omega.{arith}
+use Rattle.laws.proofs.Deciding.{decides-no}
 use Rattle.table.specs.Table.{begins}
 use Rattle.layout.proofs.Tables.{decodeTable}
 use Rattle.fitness.specs.Inside.Parts.{processes, instructions}
-use Rattle.fitness.proofs.Deciding.{decides-no}
 use Rattle.fitness.proofs.Reading.{RisingTo, begins-next, ends-bad, ends-more, ends-done}
 use Rattle.fitness.proofs.parts.ends.Statement.{statement}
 use Rattle.fitness.proofs.parts.ends.Tie as tie

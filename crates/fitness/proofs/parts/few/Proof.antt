@@ -4,7 +4,7 @@ use borrow.Author.Tests.{leb-true, leb-false}
 use lib.ListN.{getD}
 use borrow.Author.Needs.{needs}
 use native.Mathlib.Omega.{arith}
-use Rattle.fitness.proofs.Deciding.{decides-no}
+use Rattle.laws.proofs.Deciding.{decides-no}
 use Rattle.fitness.proofs.parts.few.Statement.{statement}
 use Rattle.fitness.proofs.parts.few.Tie as tie
 

@@ -2,7 +2,7 @@
 -- Assumes nothing.
 use borrow.Author.Tests.{not-true, not-false}
 use borrow.Author.Needs.{needs}
-use Rattle.fitness.proofs.Deciding.{decides-no}
+use Rattle.laws.proofs.Deciding.{decides-no}
 use Rattle.fitness.proofs.parts.unused.Statement.{statement}
 use Rattle.fitness.proofs.parts.unused.Tie as tie
 

@@ -4,8 +4,8 @@ use Prim.Native.Nat.{_+_}
 use mathlib.Core.Path.{sym, subst}
 use borrow.Author.Tests.{not-true, not-false}
 use borrow.Author.Needs.{needs}
+use Rattle.laws.proofs.Deciding.{decides-no}
 use Rattle.fitness.specs.Inside.Parts.{signals, Within}
-use Rattle.fitness.proofs.Deciding.{decides-no}
 use Rattle.fitness.proofs.Ranges.{most-is}
 use Rattle.fitness.proofs.parts.used.Statement.{statement}
 use Rattle.fitness.proofs.parts.used.Tie as tie

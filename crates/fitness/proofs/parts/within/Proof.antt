@@ -3,8 +3,8 @@
 use Prim.Native.Nat.{_-_, _≤_}
 use borrow.Author.Needs.{needs}
 use native.Mathlib.Omega.{arith}
+use Rattle.laws.proofs.Deciding.{decides-yes, decides-no}
 use Rattle.fitness.specs.Inside.Parts.{Within}
-use Rattle.fitness.proofs.Deciding.{decides-yes, decides-no}
 use Rattle.fitness.proofs.Ranges.{within-more}
 use Rattle.fitness.proofs.parts.within.Statement.{statement}
 use Rattle.fitness.proofs.parts.within.Tie as tie

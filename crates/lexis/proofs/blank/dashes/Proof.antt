@@ -1,6 +1,5 @@
 -- `lexis::blank::dashes` meets its contract: the second byte counts only where the first is a dash.
 -- Assumes nothing.
-use mathlib.Core.Path.{refl}
 use borrow.Author.Needs.{needs}
 use borrow.Author.Tests.{eq-eqb, ne-eqb}
 use Rattle.lexis.proofs.blank.dashes.Statement.{statement}

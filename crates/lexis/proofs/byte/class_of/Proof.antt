@@ -1,6 +1,5 @@
 -- `lexis::byte::class_of` meets its contract: each arm is a range of bytes, over which the class is one computed test.
 -- Assumes nothing.
-use mathlib.Core.Path.{refl}
 use mathlib.Core.Logic.{⊎-elim, inl, inr}
 use native.Mathlib.Omega.{arith}
 use Rattle.lexis.specs.Byte.{classOf}

@@ -1,13 +1,12 @@
 -- `lexis::run::shape_of` meets its contract: test by test.
 -- Assumes nothing.
 use mathlib.Core.Path.{_≡_, refl, sym, ap, _∙_}
-use mathlib.Core.Bool.{true, false}
+use mathlib.Core.Bool.{false}
 use mathlib.Core.List.{[], _∷_}
 use borrow.Author.Needs.{needs}
 use borrow.Author.Tests.{lt-ltb, le-ltb, not-true, not-false}
 use lib.ListN.{getD}
 use Rattle.lexis.specs.Byte.{classOf, isLetter}
-use Rattle.lexis.specs.Run.{allDigits, singles}
 use Rattle.lexis.specs.declared.byte.Class.{Class}
 use Rattle.lexis.proofs.Classes.{among}
 use Rattle.lexis.proofs.run.shape_of.Statement.{statement}

@@ -7,8 +7,7 @@ use borrow.Author.Needs.{needs}
 use lib.ListN.{length, drop}
 use Rattle.laws.proofs.Lists.{rest}
 use Rattle.lexis.specs.Token.{scanOf, firstRefused}
-use Rattle.lexis.specs.declared.token.Scan.the-variants.{Token as scanned, End, Refused as scanRefused}
-use Rattle.lexis.specs.declared.token.Refusal.the-variants.{At, Nowhere}
+use Rattle.lexis.specs.declared.token.Scan.the-variants.{Token as scanned, Refused as scanRefused}
 use Rattle.lexis.proofs.Bounds.{rest-within}
 use Rattle.lexis.proofs.Scans.{refusedAt, refused-token, refused-end, refused-place, refused-none}
 use Rattle.lexis.proofs.token.first_refused.Statement.{statement}

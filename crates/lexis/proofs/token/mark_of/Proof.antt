@@ -1,6 +1,5 @@
 -- `lexis::token::mark_of` meets its contract: byte by byte.
 -- Assumes nothing.
-use mathlib.Core.Path.{refl}
 use borrow.Author.Tests.{eq-eqb, ne-eqb}
 use Rattle.lexis.specs.Token.{markOf}
 use Rattle.lexis.proofs.token.mark_of.Statement.{statement}

@@ -1,6 +1,5 @@
 -- `lexis::token::placed` meets its contract: case by case.
 -- Assumes nothing.
-use mathlib.Core.Path.{refl}
 use borrow.Author.Needs.{needs}
 use Rattle.lexis.proofs.token.placed.Statement.{statement}
 use Rattle.lexis.proofs.token.placed.Tie as tie

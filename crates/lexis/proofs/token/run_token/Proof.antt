@@ -1,6 +1,5 @@
 -- `lexis::token::run_token` meets its contract: case by case.
 -- Assumes nothing.
-use mathlib.Core.Path.{refl}
 use borrow.Author.Needs.{needs}
 use Rattle.lexis.proofs.token.run_token.Statement.{statement}
 use Rattle.lexis.proofs.token.run_token.Tie as tie

@@ -1,6 +1,6 @@
 -- `reader::process::opening` meets its contract: each return by its law.
 -- Assumes nothing.
-use Rattle.reading.proofs.Generic.{held}
+use Rattle.ledger.proofs.Keeping.{held}
 use Rattle.reader.proofs.Processes.{opens-read, opens-unfit, opens-off}
 use Rattle.reader.proofs.process.opening.Statement.{statement}
 use Rattle.reader.proofs.process.opening.Tie as tie

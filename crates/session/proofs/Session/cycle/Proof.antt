@@ -1,5 +1,4 @@
 -- `session::Session::cycle` meets its contract: it is the cycle on the cells. Assumes nothing.
-use borrow.Author.Needs.{needs}
 use Rattle.session.proofs.Methods.{method-cycles, method-due, method-fit}
 use Rattle.session.proofs.Session.cycle.Statement.{statement}
 use Rattle.session.proofs.Session.cycle.Tie as tie

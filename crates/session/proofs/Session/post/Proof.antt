@@ -1,6 +1,5 @@
 -- `session::Session::post` meets its contract: it is the post on the cells. Assumes nothing.
 use native.Mathlib.Omega.{arith}
-use borrow.Author.Needs.{needs}
 use Rattle.session.proofs.Methods.{method-posts}
 use Rattle.session.proofs.Session.post.Statement.{statement}
 use Rattle.session.proofs.Session.post.Tie as tie

@@ -1,5 +1,4 @@
 -- `session::Session::take` meets its contract: it is the taking on the cells. Assumes nothing.
-use borrow.Author.Needs.{needs}
 use Rattle.session.proofs.Methods.{method-takes, method-due, method-fit}
 use Rattle.session.proofs.Session.take.Statement.{statement}
 use Rattle.session.proofs.Session.take.Tie as tie

@@ -2,16 +2,16 @@
 -- Assumes nothing.
 use Prim.Native.Nat.{_+_, _-_, _≤_}
 use mathlib.Core.Path.{_≡_}
-use native.Mathlib.Omega.{arith}
 use borrow.Author.Needs.{needs}
 use lib.ListN.{length, drop}
-use Rattle.words.specs.Integer.{valueFrom, valueOf, largest}
+use Rattle.words.specs.Unit.{longest}
+use Rattle.words.specs.Integer.{valueFrom, valueOf}
 use Rattle.words.proofs.Integers.{value-on, value-large, value-small}
 use Rattle.words.proofs.integer.amount_of.Statement.{statement}
 use Rattle.words.proofs.integer.amount_of.Tie as tie
 
 abbrev Inv-loop : tie.InvT-loop
-Inv-loop run sum₀ i₀ sum i = (i ≤ length run) × (valueFrom sum (drop i run) ≡ valueOf run) × (sum ≤ largest)
+Inv-loop run sum₀ i₀ sum i = (i ≤ length run) × (valueFrom sum (drop i run) ≡ valueOf run) × (sum ≤ longest)
 
 abbrev μ-loop : tie.MeasureT-loop
 μ-loop run sum₀ i₀ sum i = length run - i

@@ -1,10 +1,9 @@
 -- Answers that decide a fact. Assumes nothing.
-use Prim.Native.Nat.{ℕ, zero, suc}
+use Prim.Native.Nat.{ℕ}
 use native.Mathlib.Omega.{arith}
-use mathlib.Core.Path.{_≡_, refl, sym, ap}
+use mathlib.Core.Path.{_≡_, refl, sym}
 use mathlib.Core.Bool.{Bool, true, false}
-use mathlib.Core.Logic.{_⊎_, inl, inr, ⊎-elim}
-use Rattle.fitness.specs.Decides.{Decides}
+use Rattle.laws.specs.Decides.{Decides}
 
 pub differ : {A : Type 0} → true ≡ false → A
 differ e = absurd (let z : _≡_ {A = ℕ} 0 1 = cc in omega arith)
@@ -30,13 +29,3 @@ one-answer false true P d e = absurd (d .fails refl (e .holds refl))
 pub answers : (r : Bool) (P : Type 0) → Decides r P → P → r ≡ true
 answers true P d p = refl
 answers false P d p = absurd (d .fails refl p)
-
-pub same-or : (k j : ℕ) → (k ≡ j) ⊎ (k ≡ j → ⊥)
-same-or zero zero = inl refl
-same-or zero (suc j) = inr (λ e. omega arith)
-same-or (suc k) zero = inr (λ e. omega arith)
-same-or (suc k) (suc j) = ⊎-elim (λ e. inl (ap suc e)) (λ n. inr (λ e. n (omega arith))) (same-or k j)
-
-pub some : (a : ℕ) → (a ≡ 0 → ⊥) → (m : ℕ) × (a ≡ suc m)
-some zero n = absurd (n refl)
-some (suc m) n = (m, refl)

@@ -1,10 +1,10 @@
--- `ledger::time_of` meets its contract: an amount above 10^18 is too long in every unit.
+-- `words::integer::time_of` meets its contract: an amount above 10^18 is too long in every unit.
 -- Assumes nothing.
 use mathlib.Core.Path.{sym, _∙_}
 use borrow.Author.Needs.{needs}
-use Rattle.ledger.proofs.Delays.{small-amount, large-amount}
-use Rattle.ledger.proofs.time_of.Statement.{statement}
-use Rattle.ledger.proofs.time_of.Tie as tie
+use Rattle.words.proofs.Times.{small-amount, large-amount}
+use Rattle.words.proofs.integer.time_of.Statement.{statement}
+use Rattle.words.proofs.integer.time_of.Tie as tie
 
 amount-of-requires : tie.Need-amount-of-requires
 amount-of-requires c κs = search needs
