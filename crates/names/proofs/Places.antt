@@ -14,8 +14,8 @@ use Rattle.lexis.specs.declared.token.Refusal.{Refusal}
 use Rattle.lexis.specs.declared.token.Refusal.the-variants.{At, Nowhere}
 use Rattle.lexis.proofs.Bounds.{Within, scan-within}
 use Rattle.names.specs.Roles.{Role, declares, labels, listens, reads, assigns, belongs, closes, opens, delays, counts, passes, designRoles}
-use Rattle.names.specs.Judge.{State, start, next, faults, Holds, AppliesFrom}
-use Rattle.names.specs.Text.{mostBytes, refuses, placeOf, Gets, tooLong, notLexical, noSentence, tooDeep, notFit}
+use Rattle.names.specs.Judge.{State, nothingYet, next, faults, Holds, AppliesFrom}
+use Rattle.names.specs.Text.{mostBytes, refuses, placeOf, Gets, tooLong, notLexical, noSentence, tooDeep, faulty}
 
 -- PLACES
 
@@ -102,15 +102,15 @@ refused-number text (tooLong h) = (omega arith, omega arith)
 refused-number text (notLexical h e) = (omega arith, omega arith)
 refused-number text (noSentence k s r) = (omega arith, omega arith)
 refused-number text (tooDeep k s r) = (omega arith, omega arith)
-refused-number text (notFit {d} k {number} w f) =
-    let h = applies-five-to-ten (designRoles d) start k number (f .applies) in (omega (arith, h .0), h .1)
+refused-number text (faulty {d} k {number} w f) =
+    let h = applies-five-to-ten (designRoles d) nothingYet k number (f .applies) in (omega (arith, h .0), h .1)
 
 pub refused-within : (text : List ℕ) {number place : ℕ} → Gets text (refuses number place) → place ≤ length text
 refused-within text (tooLong h) = omega arith
 refused-within text (notLexical {place} h e) = first-within text place e
 refused-within text (noSentence k s r) = place-within text k
 refused-within text (tooDeep k s r) = place-within text k
-refused-within text (notFit k w f) = place-within text k
+refused-within text (faulty k w f) = place-within text k
 
 -- no place is past the longest text: 1 is refused at place 0
 pub refused-early : (text : List ℕ) {number place : ℕ} → Gets text (refuses number place) → place ≤ mostBytes
@@ -118,7 +118,7 @@ refused-early text (tooLong h) = omega arith
 refused-early text (notLexical {place} h e) = omega (arith, h, first-within text place e)
 refused-early text (noSentence k s r) = omega (arith, s .short, place-within text k)
 refused-early text (tooDeep k s r) = omega (arith, s .short, place-within text k)
-refused-early text (notFit k w f) = omega (arith, w .scanned .short, place-within text k)
+refused-early text (faulty k w f) = omega (arith, w .scanned .short, place-within text k)
 
 pub refused-long : (text : List ℕ) {place : ℕ} → Gets text (refuses 1 place) → place ≡ 0
 refused-long text g = only-long 1 refl g
@@ -128,4 +128,4 @@ refused-long text g = only-long 1 refl g
     only-long number e (notLexical h x) = absurd (omega (arith, e))
     only-long number e (noSentence k s r) = absurd (omega (arith, e))
     only-long number e (tooDeep k s r) = absurd (omega (arith, e))
-    only-long number e (notFit {d} k w f) = absurd (omega (arith, e, applies-five-to-ten (designRoles d) start k number (f .applies) .0))
+    only-long number e (faulty {d} k w f) = absurd (omega (arith, e, applies-five-to-ten (designRoles d) nothingYet k number (f .applies) .0))
