@@ -1,87 +1,102 @@
--- The digits of a time, written from the last to the first. Assumes nothing.
-use Prim.Native.Nat.{ℕ, zero, suc, _+_, _*_, _-_, _/_, _%_, _^_, _<_, _≤_}
-use mathlib.Core.Path.{_≡_, refl, ap, sym, _∙_}
-use mathlib.Core.List.{List, _∷_}
+-- A number's digits in decimal, split into those of a quotient and the block of a remainder. Assumes nothing.
+use Prim.Native.Nat.{ℕ, zero, suc, _+_, _/_, _%_, _<_, _≤_}
+use mathlib.Core.Path.{_≡_, refl, ap, _∙_}
+use mathlib.Core.Bool.{Bool, true, false}
+use mathlib.Core.List.{List, [], _∷_, _++_, append-assoc}
 use native.Mathlib.Omega.{arith}
-use lib.ListN.{length, set, take, drop, length-set, length-drop, drop-of-length-le}
-use lib.Seq.{drop-cons, drop-set-lt, getD-set-same, take-all}
+use lib.ListN.{length}
+use lib.Dec.{ltb}
 use borrow.Author.Tests.{lt-ltb, le-ltb}
+use Rattle.laws.specs.Pick.{pick}
 use Rattle.rules.specs.Dump.{digits, decimal}
+use Rattle.writing.specs.Inside.Block.{two, four, eight}
+use Rattle.writing.specs.Inside.Written.{Writes}
+use Rattle.writing.proofs.Buffers.{writes-both}
 
--- the digits behind place from are written; rest has the others
-pub record Writing (time : ℕ) (text : List ℕ) (from rest : ℕ) : Type 0 where
-  pub long : length text ≡ 20
-  pub inside : from ≤ 19
-  pub small : rest < 10 ^ suc from
-  pub fuel : ℕ
-  pub enough : rest ≤ fuel
-  pub same : digits fuel rest (drop (suc from) text) ≡ decimal time
+-- so many divisions are enough, and more change nothing
+digits-enough : (f g n : ℕ) → n ≤ f → n ≤ g → (others : List ℕ) → digits f n others ≡ digits g n others
+unfolding digits
+digits-enough zero zero n a b others = refl
+digits-enough zero (suc g) n a b others = let e : n % 10 ≡ n = omega arith in rw (lt-ltb n 10 (omega arith), e)
+digits-enough (suc f) zero n a b others = let e : n % 10 ≡ n = omega arith in rw (lt-ltb n 10 (omega arith), e)
+digits-enough (suc f) (suc g) n a b others =
+    ap (pick (ltb n 10) ((48 + n) ∷ others)) (digits-enough f g (n / 10) (omega arith) (omega arith) ((48 + n % 10) ∷ others))
 
-pub writing-first : (time : ℕ) (text : List ℕ) → length text ≡ 20 → time ≤ 1000000000000000000 → Writing time text 19 time
-unfolding decimal
-writing-first time text long small =
-    let e : 10 ^ 20 ≡ 100000000000000000000 = refl in
-    record {
-      long = long;
-      inside = omega arith;
-      small = rw e (omega arith);
-      fuel = time;
-      enough = omega arith;
-      same = ap (digits time time) (drop-of-length-le text {i = 20} (omega arith));
-    }
+digits-append : (f n : ℕ) (others more : List ℕ) → digits f n (others ++ more) ≡ digits f n others ++ more
+unfolding digits
+digits-append zero n others more = refl
+digits-append (suc f) n others more =
+    rw (digits-append f (n / 10) ((48 + n % 10) ∷ others) more) (either (ltb n 10))
+  where
+    either : (t : Bool) → pick t ((48 + n) ∷ (others ++ more)) (digits f (n / 10) ((48 + n % 10) ∷ others) ++ more)
+        ≡ pick t ((48 + n) ∷ others) (digits f (n / 10) ((48 + n % 10) ∷ others)) ++ more
+    either true = refl
+    either false = refl
 
--- one more digit in front
-behind : (text : List ℕ) (from b : ℕ) → length text ≡ 20 → from ≤ 19 → drop from (set text from b) ≡ b ∷ drop (suc from) text
-behind text from b long inside =
-    drop-cons (set text from b) from 0 (simp length-set (omega arith))
-    ∙ rw (getD-set-same text from b 0 (omega arith), drop-set-lt (suc from) text from b (omega arith))
+pub decimal-one : (n : ℕ) → n < 10 → decimal n ≡ (48 + n) ∷ []
+unfolding decimal digits
+decimal-one zero l = refl
+decimal-one (suc m) l = rw (lt-ltb (suc m) 10 l)
 
-module _ (time : ℕ) (text : List ℕ) (from rest : ℕ) (w : Writing time text from rest) where
-  pub writing-place : 10 ≤ rest → 0 < from
-  writing-place l = place from (w .small)
-    where
-      place : (f : ℕ) → rest < 10 ^ suc f → 0 < f
-      place zero s = absurd (omega arith)
-      place (suc f) s = omega arith
+-- where a number is no smaller than a size, its remainder's block comes last
+abbrev pub Splits : ℕ → (ℕ → List ℕ) → Type 0
+Splits size block = (n : ℕ) → size ≤ n → decimal n ≡ decimal (n / size) ++ block (n % size)
 
-  step : (fuel : ℕ) → rest ≤ fuel → 10 ≤ rest → (others : List ℕ) → digits fuel rest others ≡ digits (fuel - 1) (rest / 10) ((48 + rest % 10) ∷ others)
-  unfolding digits
-  step zero e l others = absurd (omega arith)
-  step (suc more) e l others = let g : suc more - 1 ≡ more = omega arith in rw (le-ltb rest 10 l, g)
+split-one : Splits 10 (λ d. (48 + d) ∷ [])
+unfolding decimal digits
+split-one zero l = absurd (omega arith)
+split-one (suc m) l =
+    rw (le-ltb (suc m) 10 l)
+    (digits-enough m (suc m / 10) (suc m / 10) (omega arith) (omega arith) ((48 + suc m % 10) ∷ [])
+    ∙ digits-append (suc m / 10) (suc m / 10) [] ((48 + suc m % 10) ∷ []))
 
-  pub writing-more : 10 ≤ rest → Writing time (set text from (48 + rest % 10)) (from - 1) (rest / 10)
-  writing-more l =
-      let p = writing-place l in
-      let e : suc (from - 1) ≡ from = omega arith in
-      let d : 10 * 10 ^ from ≡ 10 ^ suc from = omega arith in
-      record {
-        long = simp length-set (w .long);
-        inside = omega (arith, w .inside);
-        small = rw e (omega (arith, w .small));
-        fuel = w .fuel - 1;
-        enough = omega (arith, w .enough);
-        same =
-            rw (e, behind text from (48 + rest % 10) (w .long) (w .inside))
-            (sym (step (w .fuel) (w .enough) l (drop (suc from) text)) ∙ w .same);
-      }
+-- blocks of twice as many digits
+twice : (half size : ℕ) (block : ℕ → List ℕ)
+    → ((n : ℕ) → n / half / half ≡ n / size) → ((n : ℕ) → n / half % half ≡ n % size / half) → ((n : ℕ) → n % half ≡ n % size % half)
+    → ((n : ℕ) → size ≤ n → half ≤ n) → ((n : ℕ) → size ≤ n → half ≤ n / half)
+    → Splits half block → Splits size (λ n. block (n / half) ++ block (n % half))
+twice half size block quotient upper lower large larger s n l =
+    s n (large n l)
+    ∙ ap (λ (ds : List ℕ). ds ++ block (n % half)) (s (n / half) (larger n l))
+    ∙ rw (append-assoc, quotient n, upper n, lower n)
 
-  last : (fuel : ℕ) → rest < 10 → (others : List ℕ) → digits fuel rest others ≡ (48 + rest) ∷ others
-  unfolding digits
-  last zero l others = let e : rest % 10 ≡ rest = omega arith in rw e
-  last (suc more) l others = rw (lt-ltb rest 10 l)
+pub split-two : Splits 100 two
+unfolding two
+split-two =
+    twice 10 100 (λ d. (48 + d) ∷ []) (λ (n : ℕ). omega arith) (λ (n : ℕ). omega arith) (λ (n : ℕ). omega arith)
+    (λ (n : ℕ) l. omega arith) (λ (n : ℕ) l. omega arith) split-one
 
-  -- the first digit
-  pub written : rest < 10 → drop from (set text from (48 + rest)) ≡ decimal time
-  written l = behind text from (48 + rest) (w .long) (w .inside) ∙ sym (last (w .fuel) l (drop (suc from) text)) ∙ w .same
+pub split-four : Splits 10000 four
+unfolding four
+split-four =
+    twice 100 10000 two (λ (n : ℕ). omega arith) (λ (n : ℕ). omega arith) (λ (n : ℕ). omega arith)
+    (λ (n : ℕ) l. omega arith) (λ (n : ℕ) l. omega arith) split-two
 
-  pub written-length : rest < 10 → length (decimal time) ≡ 20 - from
-  written-length l = sym (ap length (written l)) ∙ length-drop from (set text from (48 + rest)) ∙ ap (λ n. n - from) (simp length-set (w .long))
+pub split-eight : Splits 100000000 eight
+unfolding eight
+split-eight =
+    twice 10000 100000000 four (λ (n : ℕ). omega arith) (λ (n : ℕ). omega arith) (λ (n : ℕ). omega arith)
+    (λ (n : ℕ) l. omega arith) (λ (n : ℕ) l. omega arith) split-four
 
-  -- what is handed on from the first digit
-  pub written-part : rest < 10 → take (20 - from) (drop from (set text from (48 + rest))) ≡ decimal time
-  written-part l =
-      take-all (20 - from) (drop from (set text from (48 + rest))) (omega (arith, ap length (written l), written-length l))
-      ∙ written l
+pub decimal-two : (n : ℕ) → 10 ≤ n → n < 100 → decimal n ≡ two n
+unfolding two
+decimal-two n l m = split-one n l ∙ rw (decimal-one (n / 10) (omega arith))
 
-  pub written-long : (b : ℕ) → 20 ≤ length (set text from b)
-  written-long b = omega (arith, length-set text from b, w .long)
+pub length-two : (n : ℕ) → length (two n) ≡ 2
+unfolding two
+length-two n = refl
+
+pub length-four : (n : ℕ) → length (four n) ≡ 4
+unfolding four two
+length-four n = refl
+
+pub length-eight : (n : ℕ) → length (eight n) ≡ 8
+unfolding eight four two
+length-eight n = refl
+
+-- the digits of the quotient, then the block of the remainder
+pub writes-split : (size : ℕ) (block : ℕ → List ℕ) → Splits size block
+    → (out : List ℕ) (at n m r : ℕ) (mid after : List ℕ) → size ≤ n
+    → Writes out at (decimal (n / size)) m mid → Writes mid m (block (n % size)) r after → Writes out at (decimal n) r after
+writes-split size block s out at n m r mid after l a b =
+    rw (s n l) (writes-both out at (decimal (n / size)) (block (n % size)) m r mid after a b)
