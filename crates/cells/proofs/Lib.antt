@@ -8,3 +8,4 @@ pub mod Taking
 pub mod Words
 pub mod Nearest
 pub mod Dues
+pub mod Differing

@@ -4,10 +4,12 @@ use mathlib.Core.Path.{_≡_, refl, ap, sym, _∙_}
 use mathlib.Core.Bool.{true, false, _||_}
 use native.Mathlib.Nat.{mod-eq-of-lt, div-div-eq-div-mul}
 use native.Mathlib.Omega.{arith}
-use lib.Bits.{bitOr, or-step, shifted-half, shifted-even}
+use lib.Bits.{bitOr, or-step, shifted-half, shifted-even, bitXor, xor-step}
 use lib.Count.{trailingZeros}
 use lib.Pow.{pow-lt}
 use Rattle.laws.proofs.Cases.{by}
+use lib.Bits as bits
+use Rattle.rules.specs.Formulas.{differ}
 use Rattle.table.specs.Table.{bit}
 use Rattle.table.proofs.Tabulated.{bit-zero}
 use Rattle.cells.specs.Cells.{truth}
@@ -29,6 +31,25 @@ bit-or a b (suc k) =
     ap (λ (n : ℕ). bit (n / 2) k) (or-step a b)
     ∙ ap (λ (n : ℕ). bit n k) (max-bit (bitOr (a / 2) (b / 2)) (a % 2) (b % 2) (omega arith) (omega arith) .0)
     ∙ bit-or (a / 2) (b / 2) k
+
+-- where two words differ
+xor-bits : (z a b : ℕ) → a ≤ 1 → b ≤ 1 → ((z * 2 + bits.differ a b) / 2 ≡ z) × (truth ((z * 2 + bits.differ a b) % 2) ≡ differ (truth a) (truth b))
+xor-bits z zero zero h g = (omega arith, let e : (z * 2 + 0) % 2 ≡ 0 = omega arith in rw e)
+xor-bits z zero (suc zero) h g = (omega arith, let e : (z * 2 + 1) % 2 ≡ 1 = omega arith in rw e)
+xor-bits z (suc zero) zero h g = (omega arith, let e : (z * 2 + 1) % 2 ≡ 1 = omega arith in rw e)
+xor-bits z (suc zero) (suc zero) h g = (omega arith, let e : (z * 2 + 0) % 2 ≡ 0 = omega arith in rw e)
+xor-bits z (suc (suc a)) b h g = absurd (omega arith)
+xor-bits z zero (suc (suc b)) h g = absurd (omega arith)
+xor-bits z (suc zero) (suc (suc b)) h g = absurd (omega arith)
+
+pub bit-xor : (a b k : ℕ) → bit (bitXor a b) k ≡ differ (bit a k) (bit b k)
+unfolding bit
+bit-xor a b zero =
+    ap (λ (n : ℕ). truth (n % 2)) (xor-step a b) ∙ xor-bits (bitXor (a / 2) (b / 2)) (a % 2) (b % 2) (omega arith) (omega arith) .1
+bit-xor a b (suc k) =
+    ap (λ (n : ℕ). bit (n / 2) k) (xor-step a b)
+    ∙ ap (λ (n : ℕ). bit n k) (xor-bits (bitXor (a / 2) (b / 2)) (a % 2) (b % 2) (omega arith) (omega arith) .0)
+    ∙ bit-xor (a / 2) (b / 2) k
 
 -- the word with bit k alone
 pub bit-same : (k : ℕ) → bit (1 * 2 ^ k) k ≡ true

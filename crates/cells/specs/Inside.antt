@@ -1,2 +1,3 @@
--- Definitions that only private contracts cite. Nobody has to believe them: no public contract names one.
+-- Definitions that only contracts inside the library cite. Nobody has to believe them: no exported function's contract names one.
 pub mod Moves
+pub mod Changes

@@ -11,8 +11,6 @@ use Rattle.rules.specs.Calls.{refused, quiet, stopReached, moved, answered, cyc
 use Rattle.cells.specs.Cells.{values, pendings, ComesNext}
 use Rattle.cells.specs.declared.Coming.the-variants.{Nothing, At}
 use Rattle.cycles.specs.Inside.Turns.{sessionOf, progressOf}
-use Rattle.writing.specs.Inside.Written.{bitsOf, Packs}
-use Rattle.writing.proofs.Packing.{bits-values}
 
 module _ (rs : List Runner) (n : ℕ) (cs : List ℕ) (stop was : ℕ) where
   pub forward-quiet : ComesNext (pendings n cs) Nothing → advance rs stop (sessionOf was n cs) ≡ quiet
@@ -31,8 +29,6 @@ module _ (rs : List Runner) (n : ℕ) (cs : List ℕ) (stop was : ℕ) where
     pub forward-refused : t ≤ stop → (r : ℕ) → cycles rs 1000 t (progressOf was n cs 0 0) ≡ refuses r → advance rs stop (sessionOf was n cs) ≡ refused r
     forward-refused l r e = goes l ∙ ap (answered (advanceBytes t (values n cs))) e
 
-    pub forward-moved : t ≤ stop → (before c m : ℕ) (fs : List ℕ) → Packs cs n 0 before → cycles rs 1000 t (progressOf was n cs 0 0) ≡ gives (progressOf t n fs c m)
-        → advance rs stop (sessionOf was n cs) ≡ moved (record { session = sessionOf t n fs; bytes = advanceBytes t (bitsOf n before) (values n fs); cycles = c; steps = m })
-    forward-moved l before c m fs p e =
-        goes l ∙ ap (answered (advanceBytes t (values n cs))) e
-        ∙ ap (λ vs. moved (record { session = sessionOf t n fs; bytes = advanceBytes t vs (values n fs); cycles = c; steps = m })) (sym (bits-values cs n before p))
+    pub forward-moved : t ≤ stop → (c m : ℕ) (fs : List ℕ) → cycles rs 1000 t (progressOf was n cs 0 0) ≡ gives (progressOf t n fs c m)
+        → advance rs stop (sessionOf was n cs) ≡ moved (record { session = sessionOf t n fs; bytes = advanceBytes t (values n cs) (values n fs); cycles = c; steps = m })
+    forward-moved l c m fs e = goes l ∙ ap (answered (advanceBytes t (values n cs))) e

@@ -32,20 +32,20 @@ method-posts n u cs k t v b ds f l p =
     }
 
 module _ (tb : List ℕ) (n u : ℕ) (cs ds : List ℕ) (e : n ≡ signalsOf tb) where
-  pub method-takes : (t w : ℕ) → Taken cs tb t (signalsOf tb) w ds → TakesAs (held n u cs) t (held n u ds)
-  method-takes t w s =
+  pub method-takes : (t w v : ℕ) → Taken cs tb t (signalsOf tb) w v ds → TakesAs (held n u cs) t (held n u ds)
+  method-takes t w v s =
       rw e
       (record {
-        pending = new-pending cs tb t w ds s;
-        values = new-values cs tb t w ds s;
+        pending = new-pending cs tb t w v ds s;
+        values = new-values cs tb t w v ds s;
         time = refl;
         count = refl;
         fit = s .fit;
       })
 
-  pub method-cycles : (t n₀ : ℕ) (r : Ran) → CyclesAs cs tb t n₀ r ds → CycleAs (runners (decodeTable tb)) (held n u cs) t n₀ r (held n t ds)
-  method-cycles t n₀ (Done steps due) g = rw e (λ c. g .ran u c .ran)
-  method-cycles t n₀ Full g = rw e (λ c. g .ran u c)
+  pub method-cycles : (t n₀ : ℕ) (r : Ran) (v : ℕ) → CyclesAs cs tb t n₀ r v ds → CycleAs (runners (decodeTable tb)) (held n u cs) t n₀ r (held n t ds)
+  method-cycles t n₀ (Done steps due) v g = rw e (λ c. g .ran u c .ran)
+  method-cycles t n₀ Full v g = rw e (λ c. g .ran u c)
 
   -- what is due, for the table's number of signals
   pub method-due : (word t : ℕ) → Due word t (pendings n cs) → Due word t (pendings (signalsOf tb) cs)

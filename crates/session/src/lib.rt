@@ -73,6 +73,7 @@ pub fn begin(cells: &mut [u64; 1152], table: &[u64], out: &mut [u8]) -> Answer
             Settled::Settles {
                 cycles: c,
                 steps: n,
+                changed: _,
             } => {
                 let bytes = writing::write_start(out, cells, count);
                 Answer::Moves {
@@ -101,14 +102,14 @@ pub fn forward(cells: &mut [u64; 1152], table: &[u64], stop: u64, out: &mut [u8]
             if stop < t {
                 return Answer::StopReached;
             }
-            let before = writing::pack(cells, count);
             match cycles::settle(cells, table, d, t, 0) {
                 Settled::Refuses(r) => Answer::Refused(r),
                 Settled::Settles {
                     cycles: c,
                     steps: n,
+                    changed: w,
                 } => {
-                    let bytes = writing::write_advance(out, cells, count, before, t);
+                    let bytes = writing::write_advance(out, cells, w, t);
                     Answer::Moves {
                         bytes: bytes,
                         time: t,
@@ -167,9 +168,9 @@ impl Session {
         requires { ⌜ Due due time (sessionIn self .pending) ⌝ }
         ensures { λ r. ⌜ TakesAs self time (r .session) ⌝ }
     {
-        let woken = cycles::take_all(&mut self.cells, table, due, time);
+        let t = cycles::take_all(&mut self.cells, table, due, time);
         Took {
-            woken: woken,
+            woken: t.woken,
             session: self,
         }
     }
@@ -184,7 +185,8 @@ impl Session {
         requires { ⌜ already ≤ 900000000000000000 ⌝ }
         ensures { λ r. ⌜ CycleAs (runners (decodeTable (now (table .entry)))) self time already (r .ran) (r .session) ⌝ }
     {
-        let ran = cycles::cycle(&mut self.cells, table, due, time, already);
+        let went = cycles::cycle(&mut self.cells, table, due, time, already);
+        let ran = went.ran;
         self.time = time;
         Cycled {
             ran: ran,

@@ -5,10 +5,8 @@ use mathlib.Core.List.{List, [], _∷_, _++_, append-nil, append-assoc}
 use mathlib.Core.Bool.{Bool, true, false}
 use native.Mathlib.Numerals.{add-one}
 use native.Mathlib.Omega.{arith}
-use lib.Bits.{bitXor, xor-lt}
 use lib.Count.{trailingZeros}
 use lib.ListN.{length, set, length-append}
-use lib.Pow.{pow-mono}
 use Rattle.laws.specs.Pick.{pick}
 use Rattle.laws.specs.Text.{bytes}
 use Rattle.laws.proofs.Cases.{split}
@@ -17,12 +15,12 @@ use Rattle.rules.specs.Dump.{LF, decimal, shown, changed, headed, advanceBytes}
 use Rattle.table.specs.Table.{bit, tabulate}
 use Rattle.table.proofs.Tabulated.{bit-zero, length-tabulate}
 use Rattle.cells.specs.Cells.{valueOf, values}
+use Rattle.cells.specs.Inside.Changes.{Differs}
 use Rattle.cells.proofs.Tabulating.{tabulate-more}
 use Rattle.cells.proofs.Columns.{length-values}
 use Rattle.cells.proofs.Words.{bit-above, Walking, walking-first, walking-last, Stepping, walking-next}
-use Rattle.writing.specs.Inside.Written.{Writes, bitsOf, Packs, chosen}
+use Rattle.writing.specs.Inside.Written.{Writes, chosen}
 use Rattle.writing.proofs.Buffers.{writes-both, writes-none}
-use Rattle.writing.proofs.Packing.{packed-at, bit-xor}
 
 module _ (word : ℕ) where
   chosen-append : (i : ℕ) (vs : Values) (v : Bool) → chosen word i (vs ++ (v ∷ [])) ≡ chosen word i vs ++ pick (bit word (i + length vs)) (shown (i + length vs) v) []
@@ -123,40 +121,31 @@ module _ (word : ℕ) where
 
 -- WHAT AN ADVANCE WRITES
 
-changed-chosen : (before word i n : ℕ) (f : ℕ → Bool) → ((k : ℕ) → k < n → bit word (i + k) ≡ differ (bit before (i + k)) (f (i + k)))
-    → changed i (tabulate (bit before) i n) (tabulate f i n) ≡ chosen word i (tabulate f i n)
+changed-chosen : (word i n : ℕ) (f g : ℕ → Bool) → ((k : ℕ) → k < n → bit word (i + k) ≡ differ (f (i + k)) (g (i + k)))
+    → changed i (tabulate f i n) (tabulate g i n) ≡ chosen word i (tabulate g i n)
 unfolding changed chosen tabulate
-changed-chosen before word i zero f h = refl
-changed-chosen before word i (suc n) f h =
-    let e : bit word i ≡ differ (bit before i) (f i) = subst (λ j. bit word j ≡ differ (bit before j) (f j)) (omega arith) (h 0 (omega arith)) in
-    rw (e, changed-chosen before word (suc i) n f (λ k l. subst (λ j. bit word j ≡ differ (bit before j) (f j)) (omega arith) (h (suc k) (omega arith))))
+changed-chosen word i zero f g h = refl
+changed-chosen word i (suc n) f g h =
+    let e : bit word i ≡ differ (f i) (g i) = subst (λ j. bit word j ≡ differ (f j) (g j)) (omega arith) (h 0 (omega arith)) in
+    rw (e, changed-chosen word (suc i) n f g (λ k l. subst (λ j. bit word j ≡ differ (f j) (g j)) (omega arith) (h (suc k) (omega arith))))
 
 head-some : (t : ℕ) (l : List ℕ) → 0 < length l → headed t l ≡ bytes "#" ++ (decimal t ++ (LF ∷ l))
 head-some t [] h = absurd (omega arith)
 head-some t (b ∷ bs) h = refl
 
-module _ (cs : List ℕ) (n before after : ℕ) (few : n ≤ 64) (small : before < 2 ^ n) (p : Packs cs n 0 after) where
-  abbrev word : ℕ
-  word = bitXor before after
+module _ (n word : ℕ) (before cs : List ℕ) (few : n ≤ 64) (d : Differs n word before cs) where
+  lines : changed 0 (values n before) (values n cs) ≡ chosen word 0 (values n cs)
+  unfolding values
+  lines = changed-chosen word 0 n (valueOf before) (valueOf cs) (λ k l. d .tells (0 + k) (omega arith))
 
-  word-small : word < 2 ^ n
-  word-small = let e : n - 0 ≡ n = omega arith in xor-lt n before after small (rw e at (p .small))
-
-  lines : changed 0 (bitsOf n before) (values n cs) ≡ chosen word 0 (values n cs)
-  unfolding bitsOf values
-  lines = changed-chosen before word 0 n (valueOf cs) (λ k l. bit-xor before after (0 + k) ∙ ap (differ (bit before (0 + k))) (packed-at cs n after (0 + k) p (omega arith)))
-
-  pub nothing-written : (t : ℕ) → word ≡ 0 → advanceBytes t (bitsOf n before) (values n cs) ≡ []
+  pub nothing-written : (t : ℕ) → word ≡ 0 → advanceBytes t (values n before) (values n cs) ≡ []
   unfolding advanceBytes
   nothing-written t e = rw (lines, no-line word e 0 (values n cs))
 
-  pub advance-written : (t : ℕ) → (word ≡ 0 → ⊥) → advanceBytes t (bitsOf n before) (values n cs) ≡ bytes "#" ++ (decimal t ++ (LF ∷ chosen word 0 (values 64 cs)))
+  pub advance-written : (t : ℕ) → (word ≡ 0 → ⊥) → advanceBytes t (values n before) (values n cs) ≡ bytes "#" ++ (decimal t ++ (LF ∷ chosen word 0 (values 64 cs)))
   unfolding advanceBytes
   advance-written t ne =
-      let s = walking-next word n word 0 (walking-first word n word-small) few (omega arith) in
-      rw (lines, chosen-few word cs n few word-small)
+      let s = walking-next word n word 0 (walking-first word n (d .small)) few (omega arith) in
+      rw (lines, chosen-few word cs n few (d .small))
       (head-some t (chosen word 0 (values n cs))
       (some-line word 0 (values n cs) (trailingZeros 64 word) (omega (arith, s .inside, length-values n cs)) (s .set)))
-
-  pub word-fits : word < 2 ^ 64
-  word-fits = omega (arith, word-small, pow-mono {i = n} {j = 64} few)

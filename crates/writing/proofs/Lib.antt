@@ -1,6 +1,5 @@
 -- Bytes behind bytes, lines of signals, and the digits of a time.
 pub mod Buffers
 pub mod Rows
-pub mod Packing
 pub mod Digits
 pub mod Choosing

@@ -1,6 +1,6 @@
 -- Bytes written to a buffer from a place on: they stand there, the others stay, and the answer is the place behind them.
 -- Assumes nothing.
-use Prim.Native.Nat.{ℕ, suc, _+_, _-_, _^_, _<_}
+use Prim.Native.Nat.{ℕ, suc, _+_, _-_}
 use mathlib.Core.Path.{_≡_}
 use mathlib.Core.List.{List, [], _∷_, _++_}
 use lib.ListN.{length}
@@ -8,21 +8,11 @@ use lib.Seq.{sets}
 use Rattle.laws.specs.Pick.{pick}
 use Rattle.rules.specs.Formulas.{Values}
 use Rattle.rules.specs.Dump.{shown}
-use Rattle.table.specs.Table.{bit, tabulate}
-use Rattle.cells.specs.Cells.{valueOf}
+use Rattle.table.specs.Table.{bit}
 
 pub record Writes (out : List ℕ) (at : ℕ) (text : List ℕ) (r : ℕ) (after : List ℕ) : Type 0 where
   pub bytes : after ≡ sets out at text
   pub end : r ≡ at + length text
-
--- the first n yes-or-nos of a word
-unfoldable pub bitsOf : ℕ → ℕ → Values
-bitsOf n word = tabulate (bit word) 0 n
-
--- the word of the values of the signals from k up to n
-pub record Packs (cells : List ℕ) (n k word : ℕ) : Type 0 where
-  pub small : word < 2 ^ (n - k)
-  pub tells : (j : ℕ) → k + j < n → bit word j ≡ valueOf cells (k + j)
 
 -- the lines of the signals from k on whose bits are set
 unfoldable pub chosen : ℕ → ℕ → Values → List ℕ
