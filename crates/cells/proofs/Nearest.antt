@@ -19,7 +19,7 @@ use Rattle.table.proofs.Tabulated.{bit-zero}
 use Rattle.table.proofs.Changes.{each-more}
 use Rattle.table.proofs.Leasts.{none-earlier, something-due}
 use Rattle.cells.specs.Cells.{changeIn, countOf, pendingOf, pendings, Fit, Reached, Due, ComesNext}
-use Rattle.cells.specs.Inside.Moves.{Seen}
+use Rattle.cells.specs.Inside.Moves.{Nearer, Seen}
 use Rattle.cells.specs.declared.Coming.the-variants.{Nothing, At}
 use Rattle.cells.proofs.Waiting.{due-later, later-first, later-all}
 use Rattle.cells.proofs.Columns.{length-pendings, pending-at, pending-past}
@@ -109,6 +109,7 @@ module _ (cs : List ℕ) (k time word : ℕ) (fit : Fit cs) (in64 : k < 64) (s :
         tells = λ j l. by j k (λ e. rw e (bit-above k word k (s .small) (omega arith) ∙ sym d)) (λ ne. s .tells j (below j l ne));
         reached = λ j l. by j k (λ e. rw e r) (λ ne. s .reached j (below j l ne));
         nothing = λ z j l. by j k (λ e. rw e (n z)) (λ ne. s .nothing z j (below j l ne));
+        above = s .above;
       }
 
   pub seen-none : countOf cs k ≡ 0 → Seen cs (k + 1) time word
@@ -143,15 +144,15 @@ module _ (cs : List ℕ) (k time word : ℕ) (fit : Fit cs) (in64 : k < 64) (s :
     unfolding dueIn
     due-here t e = rw (seen, eq-eqb (here .time) t e)
 
-    pub seen-later : time < getD cs (128 + k * 16) 0 / 2 → (word ≡ 0 → ⊥) → Seen cs (k + 1) time word
-    seen-later l ne =
+    seen-later : time < getD cs (128 + k * 16) 0 / 2 → getD cs (128 + k * 16) 0 / 2 < 2 ^ 64 → Seen cs (k + 1) time word
+    seen-later l f =
         let h : time < here .time = rw at l in
-        idle (rw seen (due-later time (here ∷ rest) (later-all time here rest rises h))) (each-here time (omega arith)) (λ z. absurd (ne z))
+        idle (rw seen (due-later time (here ∷ rest) (later-all time here rest rises h))) (each-here time (omega arith)) (λ z. absurd (omega (arith, s .above z)))
 
     not-zero : (w : ℕ) → bit w k ≡ true → w ≡ 0 → ⊥
     not-zero w b z = true≢false (sym b ∙ ap (λ x. bit x k) z ∙ bit-zero k)
 
-    pub seen-also : getD cs (128 + k * 16) 0 / 2 ≡ time → Seen cs (k + 1) time (bitOr word (1 * 2 ^ k))
+    seen-also : getD cs (128 + k * 16) 0 / 2 ≡ time → Seen cs (k + 1) time (bitOr word (1 * 2 ^ k))
     seen-also e =
         let h : here .time ≡ time = at ∙ e in
         let one : bit (bitOr word (1 * 2 ^ k)) k ≡ true = bit-or word (1 * 2 ^ k) k ∙ ap (λ b. bit word k || b) (bit-same k) ∙ or-true (bit word k) in
@@ -162,13 +163,16 @@ module _ (cs : List ℕ) (k time word : ℕ) (fit : Fit cs) (in64 : k < 64) (s :
               (λ ne. bit-or word (1 * 2 ^ k) j ∙ ap (λ b. bit word j || b) (bit-other k j ne) ∙ or-false (bit word j) ∙ s .tells j (below j l ne));
           reached = λ j l. by j k (λ q. rw q (each-here time (omega arith))) (λ ne. s .reached j (below j l ne));
           nothing = λ z. absurd (not-zero (bitOr word (1 * 2 ^ k)) one z);
+          above = λ z. absurd (not-zero (bitOr word (1 * 2 ^ k)) one z);
         }
 
     abbrev new : ℕ
     new = getD cs (128 + k * 16) 0 / 2
 
-    earliest : ((j : ℕ) → j < k → Each (λ c. new < c .time) (pendingOf cs j)) → Seen cs (k + 1) new (1 * 2 ^ k)
-    earliest far =
+    seen-earlier : new < time → Seen cs (k + 1) new (1 * 2 ^ k)
+    seen-earlier l =
+        let far : (j : ℕ) → j < k → Each (λ c. new < c .time) (pendingOf cs j) =
+        λ j m. each-more (λ c. time ≤ c .time) (λ c. new < c .time) (λ c g. omega arith) (pendingOf cs j) (s .reached j m) in
         record {
           small = one-below k (k + 1) (omega arith);
           tells = λ j m. by j k
@@ -178,23 +182,27 @@ module _ (cs : List ℕ) (k time word : ℕ) (fit : Fit cs) (in64 : k < 64) (s :
               (λ q. rw q (each-here new (omega (arith, at))))
               (λ ne. each-more (λ c. new < c .time) (λ c. new ≤ c .time) (λ c g. omega arith) (pendingOf cs j) (far j (below j m ne)));
           nothing = λ z. absurd (not-zero (1 * 2 ^ k) (bit-same k) z);
+          above = λ z. absurd (not-zero (1 * 2 ^ k) (bit-same k) z);
         }
 
-    pub seen-first : word ≡ 0 → Seen cs (k + 1) new (1 * 2 ^ k)
-    unfolding Each
-    seen-first e = earliest (λ j l. rw (s .nothing e j l) tt)
+    pub seen-some : (one t w : ℕ) → one ≡ 1 * 2 ^ k → Nearer new one time word t w → Seen cs (k + 1) t w
+    seen-some one t w e n =
+        by new time
+        (λ q. let r = n .same q in rw (r .0, r .1, e) (seen-also q))
+        (λ ne. ⊎-elim
+        (λ l. let r = n .earlier l in rw (r .0, r .1, e) (seen-earlier l))
+        (λ l. let g : time < new = omega arith in let r = n .later g in rw (r .0, r .1) (seen-later g (n .fits)))
+        (side new time))
 
-    pub seen-earlier : new < time → Seen cs (k + 1) new (1 * 2 ^ k)
-    seen-earlier l =
-        earliest (λ j m. each-more (λ c. time ≤ c .time) (λ c. new < c .time) (λ c g. omega arith) (pendingOf cs j) (s .reached j m))
-
-pub seen-start : (cs : List ℕ) → Seen cs 0 0 0
+pub seen-start : (cs : List ℕ) → Seen cs 0 18446744073709551615 0
 seen-start cs =
+    let e : 2 ^ 64 ≡ 18446744073709551616 = refl in
     record {
       small = omega arith;
       tells = λ j l. absurd (omega arith);
       reached = λ j l. absurd (omega arith);
       nothing = λ z j l. absurd (omega arith);
+      above = λ z. omega arith;
     }
 
 module _ (cs : List ℕ) (n time word : ℕ) (few : n ≤ 64) (s : Seen cs n time word) where

@@ -4,7 +4,7 @@ ghost use mathlib.Core.Bool.{true, false};
 ghost use Prim.Native.Nat.{ℕ, _+_, _*_, _/_, _^_, _≤_, _<_};
 ghost use lib.ListN.{length, getD};
 ghost use Rattle.cells.specs.Cells.{truth, pendingOf, pendings, Fit, Posted, Reached, Took, ComesNext};
-ghost use Rattle.cells.specs.Inside.Moves.{Cut, Shifted, Seen};
+ghost use Rattle.cells.specs.Inside.Moves.{Cut, Shifted, Nearer, Seen};
 
 // Of the count changes from base on, sets those at t or later to zero and says how many are left.
 fn cut(cells: &mut [u64; 1152], base: usize, count: usize, t: u64) -> usize
@@ -105,10 +105,28 @@ struct Earliest {
     due: u64,
 }
 
-// One signal more: its first change may be earlier than those before.
-fn earlier(cells: &[u64; 1152], signal: usize, time: u64, due: u64) -> Earliest
+// Of a time with its word, and a signal's first time with its bit, the earlier; both, where they are the same. In this form it
+// compiles to no jump: which one is earlier cannot be foreseen.
+fn nearer(x: u64, bit: u64, time: u64, due: u64) -> Earliest
+    ensures { λ r. ⌜ Nearer x bit time due (r .time) (r .due) ⌝ }
+{
+    let mut t = time;
+    let mut d = due;
+    if x < t {
+        t = x;
+        d = 0;
+    }
+    if x == t {
+        d = d | bit;
+    }
+    Earliest { time: t, due: d }
+}
+
+// One signal more, with its bit: its first change may be earlier than those before.
+fn earlier(cells: &[u64; 1152], signal: usize, bit: u64, time: u64, due: u64) -> Earliest
     requires { ⌜ Fit (now cells) ⌝ }
     requires { ⌜ signal < 64 ⌝ }
+    requires { ⌜ bit ≡ 1 * 2 ^ signal ⌝ }
     requires { ⌜ Seen (now cells) signal time due ⌝ }
     ensures { λ r. ⌜ Seen (now (cells .entry)) (signal + 1) (r .time) (r .due) ⌝ }
 {
@@ -120,24 +138,7 @@ fn earlier(cells: &[u64; 1152], signal: usize, time: u64, due: u64) -> Earliest
         };
     }
     let base = 128 + signal * 16;
-    let x = cells[base] / 2;
-    let b = one(signal as u64);
-    if due == 0 {
-        return Earliest { time: x, due: b };
-    }
-    if time < x {
-        return Earliest {
-            time: time,
-            due: due,
-        };
-    }
-    if x == time {
-        return Earliest {
-            time: time,
-            due: due | b,
-        };
-    }
-    Earliest { time: x, due: b }
+    nearer(cells[base] / 2, bit, time, due)
 }
 
 // What comes next for so many signals.
@@ -151,13 +152,15 @@ pub fn comes_next(cells: &[u64; 1152], count: usize) -> Coming
     requires { ⌜ count ≤ 64 ⌝ }
     ensures { λ r. ⌜ ComesNext (pendings count (now (cells .entry))) r ⌝ }
 {
-    let mut time: u64 = 0;
+    let mut time: u64 = 18446744073709551615;
     let mut due: u64 = 0;
+    let mut bit: u64 = 1;
     let mut k = 0;
     while k < count {
-        let e = earlier(cells, k, time, due);
+        let e = earlier(cells, k, bit, time, due);
         time = e.time;
         due = e.due;
+        bit = bit << 1;
         k = k + 1;
     }
     if due == 0 {

@@ -1,7 +1,8 @@
 -- What the loops over one signal's cells do, cell by cell. Assumes nothing.
-use Prim.Native.Nat.{ℕ, _+_, _/_, _^_, _<_, _≤_}
+use Prim.Native.Nat.{ℕ, _+_, _/_, _^_, _<_, _≤_, suc}
 use mathlib.Core.Path.{_≡_}
 use mathlib.Core.List.{List, []}
+use lib.Bits.{bitOr}
 use lib.ListN.{length, getD}
 use Rattle.rules.specs.Pending.{dueIn}
 use Rattle.table.specs.Table.{bit}
@@ -22,9 +23,18 @@ pub record Shifted (cells : List ℕ) (base i : ℕ) (after : List ℕ) : Type 0
   pub moved : (m : ℕ) → m + 1 < i → getD after (base + m) 0 ≡ getD cells (base + (m + 1)) 0
   pub still : (z : ℕ) → ((m : ℕ) → m + 1 < i → base + m ≡ z → ⊥) → getD after z 0 ≡ getD cells z 0
 
--- what is known of the first k signals: none has a change before the time, and the word says which have one then
+-- of a time with its word and a signal's first time x with its bit, the earlier, or both
+pub record Nearer (x one time word : ℕ) (t w : ℕ) : Type 0 where
+  pub earlier : x < time → (t ≡ x) × (w ≡ one)
+  pub same : x ≡ time → (t ≡ time) × (w ≡ bitOr word one)
+  pub later : time < x → (t ≡ time) × (w ≡ word)
+  pub fits : x < 2 ^ 64
+
+-- what is known of the first k signals: none has a change before the time, and the word says which have one then; where none has
+-- a change at all, no time is above that time
 pub record Seen (cells : List ℕ) (k time word : ℕ) : Type 0 where
   pub small : word < 2 ^ k
   pub tells : (j : ℕ) → j < k → bit word j ≡ dueIn time (pendingOf cells j)
   pub reached : (j : ℕ) → j < k → Reached time (pendingOf cells j)
   pub nothing : word ≡ 0 → (j : ℕ) → j < k → pendingOf cells j ≡ []
+  pub above : word ≡ 0 → 2 ^ 64 ≤ suc time
