@@ -2,3 +2,4 @@
 pub mod Fetching
 pub mod Stepping
 pub mod Running
+pub mod Saying
