@@ -3,3 +3,4 @@ pub mod Waking
 pub mod Sweeping
 pub mod Cycling
 pub mod Settling
+pub mod Packing
