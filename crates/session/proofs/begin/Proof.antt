@@ -23,10 +23,10 @@ shared-slice-read-all-of : tie.Need-shared-slice-read-all-of
 shared-slice-read-all-of c = search needs
 
 all-of-requires : tie.Need-all-of-requires
-all-of-requires c κs = few-processes (@args .table .now) (@pre .0)
+all-of-requires c κs = few-processes (c .before .before .before .before .before .before .args .table .now) (c .before .before .before .before .before .before .pre .0)
 
 wake-requires : tie.Need-wake-requires
-wake-requires c κs = (@fresh .ensures .fit, (@pre .0, (@all-of .ensures .small, (omega arith, (omega arith, @pre .1 .1)))))
+wake-requires c κs = (c .before .before .before .before .fresh .ensures .fit, (c .before .before .before .before .before .before .before .before .pre .0, (c .before .all-of .ensures .small, (omega arith, (omega arith, c .before .before .before .before .before .before .before .before .pre .1 .1)))))
 
 enum-told : tie.Need-enum-told
 enum-told c = search needs
@@ -36,8 +36,8 @@ enum-known-s c = search needs
 
 settle-requires : tie.Need-settle-requires
 settle-requires c κs =
-    let w = (rw (@s .given .1) at (@wake .ensures)) in
-    (w .fit, (@pre .0, (due-after (@args .table .now) (@pre .0) (@fresh .result) (@fresh .ensures) (@all-of .result) (@all-of .ensures) (@s .given .0 .0) (@s .given .0 .1 .0) (@wake .last .0) (rw (@s .given .1) at (@wake .ensures)), (omega arith, (omega (arith, w .ran .few), @pre .1 .1)))))
+    let w = (rw (c .before .before .s .given .1) at (c .before .before .before .before .wake .ensures)) in
+    (w .fit, (c .before .before .before .before .before .before .before .before .before .before .before .before .before .pre .0, (due-after (c .before .before .before .before .before .before .before .before .before .before .before .before .before .args .table .now) (c .before .before .before .before .before .before .before .before .before .before .before .before .before .pre .0) (c .before .before .before .before .before .before .before .before .before .fresh .result) (c .before .before .before .before .before .before .before .before .before .fresh .ensures) (c .before .before .before .before .before .before .all-of .result) (c .before .before .before .before .before .before .all-of .ensures) (c .before .before .s .given .0 .0) (c .before .before .s .given .0 .1 .0) (c .before .before .before .before .wake .last .0) (rw (c .before .before .s .given .1) at (c .before .before .before .before .wake .ensures)), (omega arith, (omega (arith, w .ran .few), c .before .before .before .before .before .before .before .before .before .before .before .before .before .pre .1 .1)))))
 
 enum-known-r : tie.Need-enum-known-r
 enum-known-r c = search needs
@@ -47,23 +47,23 @@ enum-known-c c = search needs
 
 write-start-requires : tie.Need-write-start-requires
 write-start-requires c κs =
-    let done = rw (@c .given .1) at (@settle .ensures 0 (λ e. refl)) in
-    (@pre .1 .0, done .1)
+    let done = rw (c .before .before .before .c .given .1) at (c .before .before .before .before .before .settle .ensures 0 (λ e. refl)) in
+    (c .before .before .before .before .before .before .before .before .before .before .before .before .before .before .before .before .before .before .before .pre .1 .0, done .1)
 
 returns : tie.Need-returns
-returns c = goes-refused (start (runners (decodeTable (@args .table .now))) (decodeTable (@args .table .now) .initial)) (signalsOf (@args .table .now)) (@args .cells .now) (@args .out .now) 15 (@wake .last .0) (begin-full (@args .table .now) (@pre .0) (@fresh .result) (@fresh .ensures) (@all-of .result) (@all-of .ensures) (@wake .last .0) (rw (@enum-told .given .1) at (@wake .ensures)))
+returns c = goes-refused (start (runners (decodeTable (c .before .before .before .before .before .before .before .before .before .before .before .args .table .now))) (decodeTable (c .before .before .before .before .before .before .before .before .before .before .before .args .table .now) .initial)) (signalsOf (c .before .before .before .before .before .before .before .before .before .before .before .args .table .now)) (c .before .before .before .before .before .before .before .before .before .before .before .args .cells .now) (c .before .before .before .before .before .before .before .before .before .before .before .args .out .now) 15 (c .before .before .wake .last .0) (begin-full (c .before .before .before .before .before .before .before .before .before .before .before .args .table .now) (c .before .before .before .before .before .before .before .before .before .before .before .pre .0) (c .before .before .before .before .before .before .before .fresh .result) (c .before .before .before .before .before .before .before .fresh .ensures) (c .before .before .before .before .all-of .result) (c .before .before .before .before .all-of .ensures) (c .before .before .wake .last .0) (rw (c .enum-told .given .1) at (c .before .before .wake .ensures)))
 
 returns-2 : tie.Need-returns-2
-returns-2 c = goes-refused (start (runners (decodeTable (@args .table .now))) (decodeTable (@args .table .now) .initial)) (signalsOf (@args .table .now)) (@args .cells .now) (@args .out .now) (@r .given .0 .0) (@settle .last .0) (begin-refused (@args .table .now) (@pre .0) (@fresh .result) (@fresh .ensures) (@all-of .result) (@all-of .ensures) (@s .given .0 .0) (@s .given .0 .1 .0) (@wake .last .0) (rw (@s .given .1) at (@wake .ensures)) (@r .given .0 .0) (rw (@r .given .1) at (@settle .ensures 0 (λ e. refl))))
+returns-2 c = goes-refused (start (runners (decodeTable (c .before .before .before .before .before .before .before .before .before .before .before .before .before .before .before .before .before .args .table .now))) (decodeTable (c .before .before .before .before .before .before .before .before .before .before .before .before .before .before .before .before .before .args .table .now) .initial)) (signalsOf (c .before .before .before .before .before .before .before .before .before .before .before .before .before .before .before .before .before .args .table .now)) (c .before .before .before .before .before .before .before .before .before .before .before .before .before .before .before .before .before .args .cells .now) (c .before .before .before .before .before .before .before .before .before .before .before .before .before .before .before .before .before .args .out .now) (c .before .r .given .0 .0) (c .before .before .before .settle .last .0) (begin-refused (c .before .before .before .before .before .before .before .before .before .before .before .before .before .before .before .before .before .args .table .now) (c .before .before .before .before .before .before .before .before .before .before .before .before .before .before .before .before .before .pre .0) (c .before .before .before .before .before .before .before .before .before .before .before .before .before .fresh .result) (c .before .before .before .before .before .before .before .before .before .before .before .before .before .fresh .ensures) (c .before .before .before .before .before .before .before .before .before .before .all-of .result) (c .before .before .before .before .before .before .before .before .before .before .all-of .ensures) (c .before .before .before .before .before .before .s .given .0 .0) (c .before .before .before .before .before .before .s .given .0 .1 .0) (c .before .before .before .before .before .before .before .before .wake .last .0) (rw (c .before .before .before .before .before .before .s .given .1) at (c .before .before .before .before .before .before .before .before .wake .ensures)) (c .before .r .given .0 .0) (rw (c .before .r .given .1) at (c .before .before .before .settle .ensures 0 (λ e. refl))))
 
 same-length : tie.Need-same-length
-same-length c = writes-length (@args .out .now) 0 _ (@write-start .result) (@write-start .last .0) (@write-start .ensures)
+same-length c = writes-length (c .before .before .before .before .before .before .before .before .before .before .before .before .before .before .before .before .before .before .before .before .before .before .args .out .now) 0 _ (c .before .before .write-start .result) (c .before .before .write-start .last .0) (c .before .before .write-start .ensures)
 
 returns-3 : tie.Need-returns-3
 returns-3 c =
-    let done = rw (@c .given .1) at (@settle .ensures 0 (λ e. refl)) in
-    goes-moved (start (runners (decodeTable (@args .table .now))) (decodeTable (@args .table .now) .initial)) (signalsOf (@args .table .now)) (@args .cells .now) (@args .out .now) 0 (@c .given .0 .0) (@c .given .0 .1 .0) (@write-start .result) _ (@settle .last .0) (@write-start .last .0)
-    (begin-moved (@args .table .now) (@pre .0) (@fresh .result) (@fresh .ensures) (@all-of .result) (@all-of .ensures) (@s .given .0 .0) (@s .given .0 .1 .0) (@wake .last .0) (rw (@s .given .1) at (@wake .ensures)) (@c .given .0 .0) (@c .given .0 .1 .0) (@settle .last .0) (done .0)) (done .1) (@write-start .ensures)
+    let done = rw (c .before .before .before .before .before .before .c .given .1) at (c .before .before .before .before .before .before .before .before .settle .ensures 0 (λ e. refl)) in
+    goes-moved (start (runners (decodeTable (c .before .before .before .before .before .before .before .before .before .before .before .before .before .before .before .before .before .before .before .before .before .before .args .table .now))) (decodeTable (c .before .before .before .before .before .before .before .before .before .before .before .before .before .before .before .before .before .before .before .before .before .before .args .table .now) .initial)) (signalsOf (c .before .before .before .before .before .before .before .before .before .before .before .before .before .before .before .before .before .before .before .before .before .before .args .table .now)) (c .before .before .before .before .before .before .before .before .before .before .before .before .before .before .before .before .before .before .before .before .before .before .args .cells .now) (c .before .before .before .before .before .before .before .before .before .before .before .before .before .before .before .before .before .before .before .before .before .before .args .out .now) 0 (c .before .before .before .before .before .before .c .given .0 .0) (c .before .before .before .before .before .before .c .given .0 .1 .0) (c .before .before .write-start .result) _ (c .before .before .before .before .before .before .before .before .settle .last .0) (c .before .before .write-start .last .0)
+    (begin-moved (c .before .before .before .before .before .before .before .before .before .before .before .before .before .before .before .before .before .before .before .before .before .before .args .table .now) (c .before .before .before .before .before .before .before .before .before .before .before .before .before .before .before .before .before .before .before .before .before .before .pre .0) (c .before .before .before .before .before .before .before .before .before .before .before .before .before .before .before .before .before .before .fresh .result) (c .before .before .before .before .before .before .before .before .before .before .before .before .before .before .before .before .before .before .fresh .ensures) (c .before .before .before .before .before .before .before .before .before .before .before .before .before .before .before .all-of .result) (c .before .before .before .before .before .before .before .before .before .before .before .before .before .before .before .all-of .ensures) (c .before .before .before .before .before .before .before .before .before .before .before .s .given .0 .0) (c .before .before .before .before .before .before .before .before .before .before .before .s .given .0 .1 .0) (c .before .before .before .before .before .before .before .before .before .before .before .before .before .wake .last .0) (rw (c .before .before .before .before .before .before .before .before .before .before .before .s .given .1) at (c .before .before .before .before .before .before .before .before .before .before .before .before .before .wake .ensures)) (c .before .before .before .before .before .before .c .given .0 .0) (c .before .before .before .before .before .before .c .given .0 .1 .0) (c .before .before .before .before .before .before .before .before .settle .last .0) (done .0)) (done .1) (c .before .before .write-start .ensures)
 
 pub begin-spec : {M : Type 1} → statement M
 begin-spec =

@@ -4,10 +4,10 @@ use Rattle.session.proofs.Session.cycle.Statement.{statement}
 use Rattle.session.proofs.Session.cycle.Tie as tie
 
 cycle-requires : tie.Need-cycle-requires
-cycle-requires c κs = (method-fit (@args .table .now) (@args .t1 .count) (@args .t1 .time) (@args .t1 .cells) (@args .t1 .cells) (@pre .1 .1 .0) (@pre .0), (@pre .1 .0, (method-due (@args .table .now) (@args .t1 .count) (@args .t1 .time) (@args .t1 .cells) (@args .t1 .cells) (@pre .1 .1 .0) (@args .due) (@args .time) (@pre .1 .1 .1 .0), @pre .1 .1 .1 .1)))
+cycle-requires c κs = (method-fit (c .before .before .before .args .table .now) (c .before .before .before .args .t1 .count) (c .before .before .before .args .t1 .time) (c .before .before .before .args .t1 .cells) (c .before .before .before .args .t1 .cells) (c .before .before .before .pre .1 .1 .0) (c .before .before .before .pre .0), (c .before .before .before .pre .1 .0, (method-due (c .before .before .before .args .table .now) (c .before .before .before .args .t1 .count) (c .before .before .before .args .t1 .time) (c .before .before .before .args .t1 .cells) (c .before .before .before .args .t1 .cells) (c .before .before .before .pre .1 .1 .0) (c .before .before .before .args .due) (c .before .before .before .args .time) (c .before .before .before .pre .1 .1 .1 .0), c .before .before .before .pre .1 .1 .1 .1)))
 
 returns : tie.Need-returns
-returns c = method-cycles (@args .table .now) (@args .t1 .count) (@args .t1 .time) (@args .t1 .cells) (@cycle .last .0) (@pre .1 .1 .0) (@args .time) (@args .already) (@cycle .result .ran) (@cycle .result .events) (@cycle .ensures)
+returns c = method-cycles (c .before .before .before .before .args .table .now) (c .before .before .before .before .args .t1 .count) (c .before .before .before .before .args .t1 .time) (c .before .before .before .before .args .t1 .cells) (c .cycle .last .0) (c .before .before .before .before .pre .1 .1 .0) (c .before .before .before .before .args .time) (c .before .before .before .before .args .already) (c .cycle .result .ran) (c .cycle .result .events) (c .cycle .ensures)
 
 pub cycle-spec : {M : Type 1} → statement M
 cycle-spec = tie.close (tie.spec cycle-requires returns)
