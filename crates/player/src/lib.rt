@@ -10,6 +10,7 @@ ghost use lib.ListN.{length};
 ghost use Rattle.layout.specs.TableWords.{FitTableWords};
 ghost use Rattle.cells.specs.Cells.{FitFor};
 ghost use Rattle.machine.specs.Inside.Steps.{signalsOf};
+ghost use Rattle.machine.specs.Inside.Units.{Planned};
 ghost use Rattle.player.specs.Inside.Turns.{Went};
 
 // Writes the first so many bytes.
@@ -30,6 +31,7 @@ enum Turn {
 fn take_turn(
     cells: &mut [u64; 1152],
     table: &[u64],
+    plan: &[u64],
     stop: u64,
     out: &mut [u8],
     count: usize,
@@ -39,10 +41,11 @@ fn take_turn(
     requires { ⌜ stop ≤ 1000000000000000000 ⌝ }
     requires { ⌜ length (now out) ≡ 36864 ⌝ }
     requires { ⌜ count ≤ 32768 ⌝ }
+    requires { ⌜ Planned (now table) (now plan) ⌝ }
     ensures { λ r. ⌜ Went (signalsOf (now (table .entry))) r (now (cells .exit)) ⌝ }
     ensures { λ _. ⌜ length (now (out .exit)) ≡ 36864 ⌝ }
 {
-    match forward(cells, table, stop, &mut out[count..]) {
+    match forward(cells, table, plan, stop, &mut out[count..]) {
         Answer::Moves {
             bytes,
             time: _,
@@ -65,12 +68,20 @@ fn more(count: usize, bytes: usize) -> usize
 
 // Advances until nothing is pending or the stop is reached. A proved loop has to end, so it counts its turns down, from a number
 // that no run uses up.
-fn go_on(cells: &mut [u64; 1152], table: &[u64], stop: u64, out: &mut [u8], first: usize)
+fn go_on(
+    cells: &mut [u64; 1152],
+    table: &[u64],
+    plan: &[u64],
+    stop: u64,
+    out: &mut [u8],
+    first: usize,
+)
     requires { ⌜ FitTableWords (now table) ⌝ }
     requires { ⌜ FitFor (signalsOf (now table)) (now cells) ⌝ }
     requires { ⌜ stop ≤ 1000000000000000000 ⌝ }
     requires { ⌜ length (now out) ≡ 36864 ⌝ }
     requires { ⌜ first ≤ 36864 ⌝ }
+    requires { ⌜ Planned (now table) (now plan) ⌝ }
 {
     let mut count = first;
     let mut turns = u64::MAX;
@@ -80,7 +91,7 @@ fn go_on(cells: &mut [u64; 1152], table: &[u64], stop: u64, out: &mut [u8], firs
             flush(out, count);
             count = 0;
         }
-        match take_turn(cells, table, stop, out, count) {
+        match take_turn(cells, table, plan, stop, out, count) {
             Turn::Wrote(bytes) => {
                 count = more(count, bytes);
             }
@@ -97,13 +108,15 @@ fn go_on(cells: &mut [u64; 1152], table: &[u64], stop: u64, out: &mut [u8], firs
     }
 }
 
-pub fn play(table: &[u64], stop: u64)
+// Plays a table with a plan of it.
+fn play_planned(table: &[u64], plan: &[u64], stop: u64)
     requires { ⌜ FitTableWords (now table) ⌝ }
     requires { ⌜ stop ≤ 1000000000000000000 ⌝ }
+    requires { ⌜ Planned (now table) (now plan) ⌝ }
 {
     let mut cells = [0u64; 1152];
     let mut out = [0u8; 36864];
-    match begin(&mut cells, table, &mut out) {
+    match begin(&mut cells, table, plan, &mut out) {
         Answer::Moves {
             bytes,
             time: _,
@@ -111,12 +124,26 @@ pub fn play(table: &[u64], stop: u64)
             steps: _,
         } => {
             let count = more(0, bytes);
-            go_on(&mut cells, table, stop, &mut out, count);
+            go_on(&mut cells, table, plan, stop, &mut out, count);
         }
         Answer::Refused(number) => {
             say_refused(number, 0);
         }
         Answer::Quiet => {}
         Answer::StopReached => {}
+    }
+}
+
+// A plan without a unit would only cost time.
+pub fn play(table: &[u64], stop: u64)
+    requires { ⌜ FitTableWords (now table) ⌝ }
+    requires { ⌜ stop ≤ 1000000000000000000 ⌝ }
+{
+    let mut plan = [0u64; 16384];
+    let units = plan::make(table, &mut plan);
+    if units == 0 {
+        play_planned(table, &table[..0], stop);
+    } else {
+        play_planned(table, &plan, stop);
     }
 }

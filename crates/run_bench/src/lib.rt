@@ -24,7 +24,7 @@ pub extern "C" fn run_bench_begin(cells: &mut [u64; 1152], table: &[u64], out: &
     requires { ⌜ FitTableWords (now table) ⌝ }
     requires { ⌜ 4096 ≤ length (now out) ⌝ }
 {
-    time_of(session::begin(cells, table, out))
+    time_of(session::begin(cells, table, &table[..0], out))
 }
 
 // An advance on cells, without a test of fitness.
@@ -40,7 +40,7 @@ pub extern "C" fn run_bench_forward(
     requires { ⌜ stop ≤ 1000000000000000000 ⌝ }
     requires { ⌜ 4096 ≤ length (now out) ⌝ }
 {
-    time_of(session::forward(cells, table, stop, out))
+    time_of(session::forward(cells, table, &table[..0], stop, out))
 }
 
 // The start on lent words.

@@ -12,10 +12,10 @@ use Rattle.player.proofs.go_on.Statement.{statement}
 use Rattle.player.proofs.go_on.Tie as tie
 
 abbrev Inv-loop : tie.InvT-loop
-Inv-loop cells₀ table stop out₀ first count₀ turns₀ cells out count turns = FitFor (signalsOf table) cells × (length out ≡ 36864) × (count ≤ 36864)
+Inv-loop cells₀ table plan stop out₀ first count₀ turns₀ cells out count turns = FitFor (signalsOf table) cells × (length out ≡ 36864) × (count ≤ 36864)
 
 abbrev μ-loop : tie.MeasureT-loop
-μ-loop cells₀ table stop out₀ first count₀ turns₀ cells out count turns = turns
+μ-loop cells₀ table plan stop out₀ first count₀ turns₀ cells out count turns = turns
 
 loop-holds : tie.Need-loop-holds Inv-loop μ-loop
 loop-holds c = search needs
@@ -27,7 +27,7 @@ flush-requires : tie.Need-flush-requires Inv-loop μ-loop
 flush-requires c κs = search needs
 
 take-turn-requires : tie.Need-take-turn-requires Inv-loop μ-loop
-take-turn-requires c κs = (search needs, (search needs, (search needs, (search needs, ⊎-elim (λ w. omega arith) (λ w. omega arith) (c .before .before .if1 .came)))))
+take-turn-requires c κs = (search needs, (search needs, (search needs, (search needs, (⊎-elim (λ w. omega arith) (λ w. omega arith) (c .before .before .if1 .came), c .before .before .before .before .before .before .before .before .pre .1 .1 .1 .1 .1)))))
 
 enum-known-bytes : tie.Need-enum-known-bytes Inv-loop μ-loop
 enum-known-bytes c = search needs

@@ -1,39 +1,29 @@
--- `player::play` meets its contract: a start that moved leaves cells that are fit.
+-- `player::play` meets its contract: the plan is made in words that are all zero, and no words plan nothing.
 -- Assumes nothing.
 use borrow.Author.Needs.{needs}
-use Rattle.player.proofs.Moving.{moved-fit}
+use native.Mathlib.Omega.{arith}
+use Rattle.machine.proofs.Running.{planned-empty}
+use Rattle.plan.proofs.Chaining.{zero-at}
 use Rattle.player.proofs.play.Statement.{statement}
 use Rattle.player.proofs.play.Tie as tie
 
-slice-aggregate-begin : tie.Need-slice-aggregate-begin
-slice-aggregate-begin c = search needs
+slice-aggregate-make : tie.Need-slice-aggregate-make
+slice-aggregate-make c = search needs
 
-begin-requires : tie.Need-begin-requires
-begin-requires c κs = search needs
+make-requires : tie.Need-make-requires
+make-requires c κs = (c .before .before .pre .0, (omega arith, zero-at 16384))
 
-enum-known-bytes : tie.Need-enum-known-bytes
-enum-known-bytes c = search needs
+slice-aggregate-play-planned : tie.Need-slice-aggregate-play-planned
+slice-aggregate-play-planned c = search needs
 
-more-requires : tie.Need-more-requires
-more-requires c κs = search needs
+play-planned-requires : tie.Need-play-planned-requires
+play-planned-requires c κs = (c .before .before .before .before .before .before .pre .0, (c .before .before .before .before .before .before .pre .1, planned-empty (c .before .before .before .before .before .before .args .table .now)))
 
-slice-aggregate-go-on : tie.Need-slice-aggregate-go-on
-slice-aggregate-go-on c = search needs
+slice-aggregate-play-planned-2 : tie.Need-slice-aggregate-play-planned-2
+slice-aggregate-play-planned-2 c = search needs
 
-go-on-requires : tie.Need-go-on-requires
-go-on-requires c κs = (search needs, (moved-fit _ _ _ _ _ _ _ _ _ _ _ (c .before .before .before .before .before .before .before .begin .ensures) (c .before .before .before .before .bytes .given .1), (search needs, (search needs, search needs))))
-
-enum-known-number : tie.Need-enum-known-number
-enum-known-number c = search needs
-
-say-refused-requires : tie.Need-say-refused-requires
-say-refused-requires c κs = search needs
-
-enum-told : tie.Need-enum-told
-enum-told c = search needs
-
-enum-told-2 : tie.Need-enum-told-2
-enum-told-2 c = search needs
+play-planned-requires-2 : tie.Need-play-planned-requires-2
+play-planned-requires-2 c κs = search needs
 
 returns : tie.Need-returns
 returns c = search needs
@@ -41,27 +31,15 @@ returns c = search needs
 returns-2 : tie.Need-returns-2
 returns-2 c = search needs
 
-returns-3 : tie.Need-returns-3
-returns-3 c = search needs
-
-returns-4 : tie.Need-returns-4
-returns-4 c = search needs
-
 pub play-spec : {M : Type 1} → statement M
 play-spec =
     tie.close
     (tie.spec
-    slice-aggregate-begin
-    begin-requires
-    enum-known-bytes
-    more-requires
-    slice-aggregate-go-on
-    go-on-requires
-    enum-known-number
-    say-refused-requires
-    enum-told
-    enum-told-2
+    slice-aggregate-make
+    make-requires
+    slice-aggregate-play-planned
+    play-planned-requires
+    slice-aggregate-play-planned-2
+    play-planned-requires-2
     returns
-    returns-2
-    returns-3
-    returns-4)
+    returns-2)
