@@ -42,7 +42,7 @@ fn advance(
     ensures { λ r. ⌜ (r .last ≡ false → FitFor (signalsOf (now (table .entry))) (now (cells .exit))) ⌝ }
     ensures { λ r. ⌜ r .count ≤ length (now (lines .exit)) ⌝ }
 {
-    match forward(cells, table, stop, out) {
+    match forward(cells, table, &table[..0], stop, out) {
         Answer::Moves {
             bytes,
             time,
@@ -113,7 +113,7 @@ fn run(table: &[u64], stop: u64, lines: &mut [u8], count: usize)
 {
     let mut cells = [0u64; 1152];
     let mut out = [0u8; 4096];
-    match begin(&mut cells, table, &mut out) {
+    match begin(&mut cells, table, &table[..0], &mut out) {
         Answer::Moves {
             bytes,
             time,

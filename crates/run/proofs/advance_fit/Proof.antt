@@ -12,6 +12,9 @@ use Rattle.run.proofs.advance_fit.Tie as tie
 load-requires : tie.Need-load-requires
 load-requires c κs = c .before .before .before .before .pre .1 .0 .holds .long
 
+slice-aggregate-forward : tie.Need-slice-aggregate-forward
+slice-aggregate-forward c = search needs
+
 forward-requires : tie.Need-forward-requires
 forward-requires c κs = (c .before .before .before .before .before .before .before .before .pre .0, (loaded-fit (c .before .before .before .before .before .before .before .before .args .table .now) (c .before .before .before .before .before .before .before .before .args .words .now) (c .before .before .before .before .before .before .before .before .pre .0) (c .before .before .before .before .before .before .before .before .pre .1 .0) (c .before .before .before .load .result) (c .before .before .before .load .ensures), (c .before .before .before .before .before .before .before .before .pre .1 .1 .0, (c .before .before .before .before .before .before .before .before .pre .1 .1 .1, planned-empty (c .before .before .before .before .before .before .before .before .args .table .now)))))
 
@@ -74,6 +77,7 @@ advance-fit-spec =
     tie.close
     (tie.spec
     load-requires
+    slice-aggregate-forward
     forward-requires
     enum-known-b
     shared-slice-read-store

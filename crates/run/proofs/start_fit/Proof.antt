@@ -9,6 +9,9 @@ use Rattle.run.proofs.Giving.{moved-long, gives-moved, gives-refused, g
 use Rattle.run.proofs.start_fit.Statement.{statement}
 use Rattle.run.proofs.start_fit.Tie as tie
 
+slice-aggregate-begin : tie.Need-slice-aggregate-begin
+slice-aggregate-begin c = search needs
+
 begin-requires : tie.Need-begin-requires
 begin-requires c κs = (c .before .before .before .before .before .before .pre .0, (c .before .before .before .before .before .before .pre .1 .1, planned-empty (c .before .before .before .before .before .before .args .table .now)))
 
@@ -61,6 +64,7 @@ pub start-fit-spec : {M : Type 1} → statement M
 start-fit-spec =
     tie.close
     (tie.spec
+    slice-aggregate-begin
     begin-requires
     enum-known-b
     shared-slice-read-store

@@ -2,13 +2,17 @@
 -- Assumes nothing.
 use mathlib.Core.Bool.{true≢false}
 use native.Mathlib.Omega.{arith}
+use Rattle.machine.proofs.Running.{planned-empty}
 use Rattle.player.proofs.Moving.{moved-fit}
 use borrow.Author.Needs.{needs}
 use Rattle.trace.proofs.advance.Statement.{statement}
 use Rattle.trace.proofs.advance.Tie as tie
 
+slice-aggregate-forward : tie.Need-slice-aggregate-forward
+slice-aggregate-forward c = search needs
+
 forward-requires : tie.Need-forward-requires
-forward-requires c κs = (search needs, (search needs, (search needs, omega (arith, c .before .before .before .before .before .pre .1 .1 .1 .0))))
+forward-requires c κs = (search needs, (search needs, (search needs, (omega (arith, c .before .before .before .before .before .before .pre .1 .1 .1 .0), planned-empty (c .before .before .before .before .before .before .args .table .now)))))
 
 enum-known-bytes : tie.Need-enum-known-bytes
 enum-known-bytes c = search needs
@@ -89,6 +93,7 @@ pub advance-spec : {M : Type 1} → statement M
 advance-spec =
     tie.close
     (tie.spec
+    slice-aggregate-forward
     forward-requires
     enum-known-bytes
     slice-aggregate-moved

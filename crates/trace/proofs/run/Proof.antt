@@ -1,5 +1,6 @@
 -- `trace::run` meets its contract: a start that moved leaves cells that are fit.
 -- Assumes nothing.
+use Rattle.machine.proofs.Running.{planned-empty}
 use Rattle.player.proofs.Moving.{moved-fit}
 use borrow.Author.Needs.{needs}
 use Rattle.trace.proofs.run.Statement.{statement}
@@ -8,8 +9,11 @@ use Rattle.trace.proofs.run.Tie as tie
 slice-aggregate-begin : tie.Need-slice-aggregate-begin
 slice-aggregate-begin c = search needs
 
+slice-aggregate-begin-2 : tie.Need-slice-aggregate-begin-2
+slice-aggregate-begin-2 c = search needs
+
 begin-requires : tie.Need-begin-requires
-begin-requires c κs = search needs
+begin-requires c κs = (c .before .before .before .before .before .pre .0, (search needs, planned-empty (c .before .before .before .before .before .args .table .now)))
 
 enum-known-bytes : tie.Need-enum-known-bytes
 enum-known-bytes c = search needs
@@ -67,6 +71,7 @@ run-spec =
     tie.close
     (tie.spec
     slice-aggregate-begin
+    slice-aggregate-begin-2
     begin-requires
     enum-known-bytes
     slice-aggregate-moved
