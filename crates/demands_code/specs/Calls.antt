@@ -37,3 +37,7 @@ GivenAfter rs (refused r) session more = Unit {0}
 GivenAfter rs quiet session more = Unit {0}
 GivenAfter rs stopReached session more = Unit {0}
 GivenAfter rs (moved m) session more = Given rs (m .session) session more
+
+-- after a start that is refused, nothing is said of the calls that follow
+nothing-after : (rs : List Runner) (session : List ℕ) (more : List Call) → GivenAfter rs (refused 16) session more
+nothing-after rs session more = tt

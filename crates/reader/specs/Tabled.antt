@@ -1,9 +1,11 @@
 -- What `read` answers of a text and a lent table, and what it leaves in the table, for each case of the answer.
 -- Assumes nothing: these are definitions.
 use Prim.Native.Nat.{ℕ, _≤_, _<_}
-use mathlib.Core.Path.{_≡_}
-use mathlib.Core.List.{List, _++_}
+use native.Mathlib.Omega.{arith}
+use mathlib.Core.Path.{_≡_, refl}
+use mathlib.Core.List.{List, [], _++_}
 use lib.ListN.{length, drop}
+use Rattle.laws.specs.Text.{bytes}
 use Rattle.syntax.specs.Tree.{Design}
 use Rattle.table.specs.Translation.{translate}
 use Rattle.names.specs.CircuitOf.{circuitOf}
@@ -27,3 +29,7 @@ pub record Translates (text table after : List ℕ) : Type 0 where
 abbrev pub Tables : (text table : List ℕ) → Tabled → List ℕ → Type 0
 Tables text table Written after = Translates text table after
 Tables text table (Refused number place) after = RefusedWith text table number place × (after ≡ table)
+
+-- no words are lent: 11, whatever the text
+no-words : Tables (bytes "entity") [] (Refused 11 0) []
+no-words = (short (omega arith), refl)
