@@ -3,3 +3,4 @@ pub mod Fetching
 pub mod Stepping
 pub mod Running
 pub mod Saying
+pub mod Relaying
