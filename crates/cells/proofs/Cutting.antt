@@ -1,4 +1,4 @@
--- The loops that cut a signal's later changes and that move its changes down: what they keep. Assumes nothing.
+-- The loops that cut a signal's later changes and that move its changes down: what they keep, and how the first change goes. Assumes nothing.
 use Prim.Native.Nat.{ℕ, suc, _+_, _-_, _/_, _<_, _≤_}
 use mathlib.Core.Path.{_≡_, refl, sym, subst, _∙_}
 use mathlib.Core.Logic.{_⊎_, ⊎-elim}
@@ -7,7 +7,8 @@ use native.Mathlib.Nat.{eq-or-lt-of-le}
 use native.Mathlib.Omega.{arith}
 use lib.ListN.{length, getD, set, length-set}
 use lib.Seq.{getD-set-same, getD-set-other}
-use Rattle.cells.specs.Inside.Moves.{Cut, Shifted}
+use Rattle.laws.proofs.Cases.{by}
+use Rattle.cells.specs.Inside.Moves.{Cut, Shifted, Dropped}
 
 -- a list read downwards: what holds from n on and at n - 1 holds from n - 1 on
 from-one-less :
@@ -96,3 +97,32 @@ shifted-more cs ds base i pos fits sh =
   where
     lt-step : (m i : ℕ) → m + 1 < i + 1 → (m + 1 ≡ i) ⊎ (m + 1 < i)
     lt-step m i l = eq-or-lt-of-le (omega arith)
+
+-- the first of sixteen cells goes: where it alone may be other than zero, and by a move
+module _ (cs : List ℕ) (base : ℕ) (fits : base + 16 ≤ 1152) where
+  pub dropped-only : length cs ≡ 1152 → ((i : ℕ) → 1 ≤ i → i < 16 → getD cs (base + i) 0 ≡ 0) → Dropped cs base (set cs base 0)
+  dropped-only long none =
+      record {
+        long = simp length-set long;
+        moved = λ m l. empty m (omega arith) ∙ sym (none (m + 1) (omega arith) (omega arith));
+        last = empty 15 (omega arith);
+        still = λ z out. getD-set-other cs base z 0 0 (λ e. out 0 (omega arith) (omega arith));
+      }
+    where
+      empty : (m : ℕ) → m < 16 → getD (set cs base 0) (base + m) 0 ≡ 0
+      empty m l =
+          by m 0
+          (λ e. let q : base + m ≡ base = omega arith in rw q (getD-set-same cs base 0 0 (omega arith)))
+          (λ ne. getD-set-other cs base (base + m) 0 0 (λ e. ne (omega arith)) ∙ none m (omega arith) l)
+
+  pub dropped-moved : (ds : List ℕ) → Shifted cs base 16 ds → Dropped cs base (set ds (base + 15) 0)
+  dropped-moved ds sh =
+      record {
+        long = simp length-set (sh .long);
+        moved = λ m l. getD-set-other ds (base + 15) (base + m) 0 0 (λ e. omega arith) ∙ sh .moved m (omega arith);
+        last = getD-set-same ds (base + 15) 0 0 (omega (arith, sh .long));
+        still =
+            λ z out.
+            getD-set-other ds (base + 15) z 0 0 (λ e. out 15 (omega arith) (sym e))
+            ∙ sh .still z (λ m l e. out m (omega arith) e);
+      }

@@ -7,13 +7,14 @@ use native.Mathlib.Omega.{arith}
 use lib.Dec.{eqb}
 use lib.ListN.{getD, set, length-set}
 use lib.Seq.{getD-set-same, getD-set-other}
-use borrow.Author.Tests.{eqb-true, eqb-false, eq-eqb}
+use borrow.Author.Tests.{eq-eqb}
+use Rattle.laws.proofs.Cases.{by}
 use Rattle.rules.specs.Formulas.{differ}
-use Rattle.rules.specs.Pending.{Change, change, taken, kept}
+use Rattle.rules.specs.Pending.{Change, taken, kept}
 use Rattle.rules.specs.Session.{Each, Rising}
 use Rattle.table.specs.Table.{tabulate}
 use Rattle.cells.specs.Cells.{truth, changeIn, countOf, pendingOf, valueOf, Fit, Reached, Took}
-use Rattle.cells.specs.Inside.Moves.{Shifted}
+use Rattle.cells.specs.Inside.Moves.{Dropped}
 use Rattle.cells.proofs.Waiting.{kept-later, taken-later, later-first, later-all, rising-tail}
 use Rattle.cells.proofs.Columns.{same-changes, Only, count-other, pending-other, value-other, fit-only}
 
@@ -88,37 +89,36 @@ module _ (cs : List ℕ) (k t : ℕ) (fit : Fit cs) (in64 : k < 64) (reached : R
       above : (a b : ℕ) → a ≤ b → (b ≡ a → ⊥) → a < b
       above a b h n = omega arith
 
-  module _ (es : List ℕ) (some : 0 < countOf cs k) (at : getD cs (128 + k * 16) 0 / 2 ≡ t) (sh : Shifted cs (128 + k * 16) (countOf cs k) es) where
-    abbrev first : List ℕ
-    first = set es (128 + k * 16 + (countOf cs k - 1)) 0
-
-    abbrev second : List ℕ
-    second = set first (64 + k) (countOf cs k - 1)
+  module _ (es : List ℕ) (some : 0 < countOf cs k) (at : getD cs (128 + k * 16) 0 / 2 ≡ t) (d : Dropped cs (128 + k * 16) es) where
+    abbrev fewer : List ℕ
+    fewer = set es (64 + k) (countOf cs k - 1)
 
     abbrev went : List ℕ
-    went = set second k (getD cs (128 + k * 16) 0 % 2)
+    went = set fewer k (getD cs (128 + k * 16) 0 % 2)
 
     value-here : getD went k 0 ≡ getD cs (128 + k * 16) 0 % 2
-    value-here = getD-set-same second k (getD cs (128 + k * 16) 0 % 2) 0 (simp length-set (omega (arith, sh .long)))
+    value-here = getD-set-same fewer k (getD cs (128 + k * 16) 0 % 2) 0 (simp length-set (omega (arith, d .long)))
 
     count-here : countOf went k ≡ countOf cs k - 1
     count-here =
-        getD-set-other second k (64 + k) (getD cs (128 + k * 16) 0 % 2) 0 (λ e. omega arith)
-        ∙ getD-set-same first (64 + k) (countOf cs k - 1) 0 (simp length-set (omega (arith, sh .long)))
+        getD-set-other fewer k (64 + k) (getD cs (128 + k * 16) 0 % 2) 0 (λ e. omega arith)
+        ∙ getD-set-same es (64 + k) (countOf cs k - 1) 0 (omega (arith, d .long))
 
-    far : (z : ℕ) → (z ≡ k → ⊥) → (z ≡ 64 + k → ⊥) → (z ≡ 128 + k * 16 + (countOf cs k - 1) → ⊥) → getD went z 0 ≡ getD es z 0
-    far z p q r =
-        getD-set-other second k z (getD cs (128 + k * 16) 0 % 2) 0 p
-        ∙ getD-set-other first (64 + k) z (countOf cs k - 1) 0 q
-        ∙ getD-set-other es (128 + k * 16 + (countOf cs k - 1)) z 0 0 r
+    far : (z : ℕ) → (z ≡ k → ⊥) → (z ≡ 64 + k → ⊥) → getD went z 0 ≡ getD es z 0
+    far z p q =
+        getD-set-other fewer k z (getD cs (128 + k * 16) 0 % 2) 0 p
+        ∙ getD-set-other es (64 + k) z (countOf cs k - 1) 0 q
+
+    cell-here : (i : ℕ) → getD went (base + i) 0 ≡ getD es (base + i) 0
+    cell-here i = far (base + i) (λ e. omega arith) (λ e. omega arith)
 
     tail-here : pendingOf went k ≡ rest
     tail-here =
         ap (λ (n : ℕ). tabulate (changeIn went) (128 + k * 16) n) count-here
         ∙ same-changes cs went (suc (128 + k * 16)) (128 + k * 16) (countOf cs k - 1)
         (λ i l.
-        far (128 + k * 16 + i) (λ e. omega arith) (λ e. omega arith) (λ e. omega arith)
-        ∙ sh .moved i (omega arith)
+        cell-here i
+        ∙ d .moved i (omega (arith, fit .few k in64))
         ∙ ap (λ (z : ℕ). getD cs z 0) (omega arith))
 
     pending-new : pendingOf went k ≡ kept t (pendingOf cs k)
@@ -132,38 +132,19 @@ module _ (cs : List ℕ) (k t : ℕ) (fit : Fit cs) (in64 : k < 64) (reached : R
     value-new = ap truth value-here ∙ sym (rw (seen some) (taken-first t (valueOf cs k) (changeIn cs base) rest (time-of ∙ at) ∙ value-of))
 
     only : Only k cs went
-    only =
-        record {
-          still =
-              λ z a b d.
-              far z a b (λ e. d (countOf cs k - 1) (omega (arith, fit .few k in64)) (sym e))
-              ∙ sh .still z (λ i l e. d i (omega (arith, fit .few k in64)) e);
-        }
+    only = record { still = λ z a b out. far z a b ∙ d .still z out }
 
-    old-kept : getD second k 0 ≡ getD cs k 0
-    old-kept =
-        getD-set-other first (64 + k) k (countOf cs k - 1) 0 (λ e. omega arith)
-        ∙ getD-set-other es (128 + k * 16 + (countOf cs k - 1)) k 0 0 (λ e. omega arith)
-        ∙ sh .still k (λ i l e. omega arith)
+    old-kept : getD fewer k 0 ≡ getD cs k 0
+    old-kept = getD-set-other es (64 + k) k (countOf cs k - 1) 0 (λ e. omega arith) ∙ d .still k (λ m l e. omega arith)
 
-    unused-here : (i : ℕ) → countOf went k ≤ i → i < 16 → (q : Bool) → eqb i (countOf cs k - 1) ≡ q → getD went (128 + k * 16 + i) 0 ≡ 0
-    unused-here i p g true e =
-        let h : i ≡ countOf cs k - 1 = eqb-true i (countOf cs k - 1) e in
-        ap (λ (z : ℕ). getD went (128 + k * 16 + z) 0) h
-        ∙ getD-set-other second k (128 + k * 16 + (countOf cs k - 1)) (getD cs (128 + k * 16) 0 % 2) 0 (λ e. omega arith)
-        ∙ getD-set-other first (64 + k) (128 + k * 16 + (countOf cs k - 1)) (countOf cs k - 1) 0 (λ e. omega arith)
-        ∙ getD-set-same es (128 + k * 16 + (countOf cs k - 1)) 0 0 (omega (arith, sh .long, fit .few k in64))
-    unused-here i p g false e =
-        let ne = eqb-false i (countOf cs k - 1) e in
-        let l : countOf cs k - 1 ≤ i = rw count-here at p in
-        far (128 + k * 16 + i) (λ e. omega arith) (λ e. omega arith) (λ e. ne (omega arith))
-        ∙ sh .still (128 + k * 16 + i) (λ m u e. omega arith)
-        ∙ fit .unused k i in64 (past (countOf cs k) i l ne) g
-      where
-        past : (n i : ℕ) → n - 1 ≤ i → (i ≡ n - 1 → ⊥) → n ≤ i
-        past n i l ne = omega arith
+    unused-here : (i : ℕ) → countOf went k ≤ i → i < 16 → getD went (base + i) 0 ≡ 0
+    unused-here i p g =
+        cell-here i
+        ∙ by i 15
+        (λ e. rw e (d .last))
+        (λ ne. d .moved i (omega arith) ∙ fit .unused k (i + 1) in64 (omega (arith, count-here)) (omega arith))
 
-    pub took-done : Took cs k t (not (eqb (getD second k 0) (getD cs (128 + k * 16) 0 % 2))) went
+    pub took-done : Took cs k t (not (eqb (getD fewer k 0) (getD cs (128 + k * 16) 0 % 2))) went
     took-done =
         record {
           event =
@@ -175,9 +156,9 @@ module _ (cs : List ℕ) (k t : ℕ) (fit : Fit cs) (in64 : k < 64) (reached : R
           otherCount = count-other cs went k fit in64 only;
           otherPending = pending-other cs went k fit in64 only;
           fit =
-              fit-only cs went k fit in64 only (simp length-set (sh .long))
+              fit-only cs went k fit in64 only (simp length-set (d .long))
               (rw value-here (omega arith))
               (rw count-here (omega (arith, fit .few k in64)))
               (rw tail-here (rising-tail (changeIn cs base) rest (rw (seen some) at (fit .rising k in64))))
-              (λ i p g. unused-here i p g (eqb i (countOf cs k - 1)) refl);
+              unused-here;
         }

@@ -4,7 +4,7 @@ ghost use mathlib.Core.Bool.{true, false};
 ghost use Prim.Native.Nat.{ℕ, _+_, _*_, _/_, _^_, _≤_, _<_};
 ghost use lib.ListN.{length, getD};
 ghost use Rattle.cells.specs.Cells.{truth, pendingOf, pendings, Fit, Posted, Reached, Took, ComesNext};
-ghost use Rattle.cells.specs.Inside.Moves.{Cut, Shifted, Nearer, Seen};
+ghost use Rattle.cells.specs.Inside.Moves.{Cut, Shifted, Dropped, Nearer, Seen};
 
 // Of the count changes from base on, sets those at t or later to zero and says how many are left.
 fn cut(cells: &mut [u64; 1152], base: usize, count: usize, t: u64) -> usize
@@ -64,6 +64,23 @@ fn shift(cells: &mut [u64; 1152], base: usize, n: usize)
     }
 }
 
+// Drops the first of a signal's count changes. The cells behind them are zero, so that all sixteen are moved: a fixed number of moves
+// compiles to no loop.
+fn drop_first(cells: &mut [u64; 1152], base: usize, count: usize)
+    requires { ⌜ length (now cells) ≡ 1152 ⌝ }
+    requires { ⌜ base + 16 ≤ 1152 ⌝ }
+    requires { ⌜ ((i : ℕ) → count ≤ i → i < 16 → getD (now cells) (base + i) 0 ≡ 0) ⌝ }
+    ensures { λ r. ⌜ Dropped (now (cells .entry)) base (now (cells .exit)) ⌝ }
+{
+    if count == 1 {
+        cells[base] = 0;
+        return;
+    }
+    shift(cells, base, 16);
+    let last = base + 15;
+    cells[last] = 0;
+}
+
 // Takes a signal's change at a time out, gives the signal that value, and says whether it is another than before.
 pub fn take(cells: &mut [u64; 1152], signal: usize, time: u64) -> bool
     requires { ⌜ Fit (now cells) ⌝ }
@@ -81,9 +98,7 @@ pub fn take(cells: &mut [u64; 1152], signal: usize, time: u64) -> bool
     if x / 2 != time {
         return false;
     }
-    shift(cells, base, count);
-    let last = base + (count - 1);
-    cells[last] = 0;
+    drop_first(cells, base, count);
     cells[top] = (count - 1) as u64;
     let old = cells[signal];
     let new = x % 2;

@@ -1,5 +1,4 @@
 -- `cells::take` meets its contract: nothing is due, or the first change is. Assumes nothing.
-use Prim.Native.Nat.{_-_}
 use native.Mathlib.Omega.{arith}
 use Rattle.cells.proofs.Taking.{took-none, took-later, took-done}
 use borrow.Author.Needs.{needs}
@@ -37,37 +36,19 @@ returns-2 c =
     let b = c .before .before .before .before in
     took-later (b .args .cells .now) (b .args .signal) (b .args .time) (b .pre .0) (b .pre .1 .0) (b .pre .1 .1) (omega arith) (c .if2 .taken)
 
-shift-requires : tie.Need-shift-requires
-shift-requires c κs =
+drop-first-requires : tie.Need-drop-first-requires
+drop-first-requires c κs =
     let b = c .before .before .before .before .before in
-    (omega (arith, b .pre .0 .few (b .args .signal) (b .pre .1 .0)), (b .pre .0 .long, omega arith))
-
-sub-last : tie.Need-sub-last
-sub-last c = search needs
-
-add-last : tie.Need-add-last
-add-last c =
-    let b = c .before .before .before .before .before .before in
-    omega (arith, b .pre .0 .few (b .args .signal) (b .pre .1 .0))
-
-mul-cells : tie.Need-mul-cells
-mul-cells c =
-    let b = c .before .before .before .before .before .before in
-    omega (arith, b .pre .0 .few (b .args .signal) (b .pre .1 .0))
-
-element-write-cells : tie.Need-element-write-cells
-element-write-cells c =
-    let b = c .before .before .before .before .before .before in
-    omega (arith, b .pre .0 .few (b .args .signal) (b .pre .1 .0), c .shift .ensures .long)
+    (b .pre .0 .long, (omega arith, λ i. b .pre .0 .unused (b .args .signal) i (b .pre .1 .0)))
 
 sub-cells : tie.Need-sub-cells
 sub-cells c = search needs
 
-mul-cells-2 : tie.Need-mul-cells-2
-mul-cells-2 c = search needs
+mul-cells : tie.Need-mul-cells
+mul-cells c = search needs
 
-element-write-cells-2 : tie.Need-element-write-cells-2
-element-write-cells-2 c = search needs
+element-write-cells : tie.Need-element-write-cells
+element-write-cells c = search needs
 
 mul-old : tie.Need-mul-old
 mul-old c = search needs
@@ -75,17 +56,17 @@ mul-old c = search needs
 element-copy-out-old : tie.Need-element-copy-out-old
 element-copy-out-old c = search needs
 
-mul-cells-3 : tie.Need-mul-cells-3
-mul-cells-3 c = search needs
+mul-cells-2 : tie.Need-mul-cells-2
+mul-cells-2 c = search needs
 
-element-write-cells-3 : tie.Need-element-write-cells-3
-element-write-cells-3 c = search needs
+element-write-cells-2 : tie.Need-element-write-cells-2
+element-write-cells-2 c = search needs
 
 returns-3 : tie.Need-returns-3
 returns-3 c =
     let b = c .before .before .before .before .before .before .before in
-    took-done (b .args .cells .now) (b .args .signal) (b .args .time) (b .pre .0) (b .pre .1 .0) (b .pre .1 .1) (c .before .shift .last .0)
-    (omega arith) (c .before .before .before .if2 .left) (c .before .shift .ensures)
+    took-done (b .args .cells .now) (b .args .signal) (b .args .time) (b .pre .0) (b .pre .1 .0) (b .pre .1 .1) (c .before .drop-first .last .0)
+    (omega arith) (c .before .before .before .if2 .left) (c .before .drop-first .ensures)
 
 pub take-spec : {M : Type 1} → statement M
 take-spec =
@@ -100,16 +81,12 @@ take-spec =
     mul-x
     element-copy-out-x
     returns-2
-    shift-requires
-    sub-last
-    add-last
+    drop-first-requires
+    sub-cells
     mul-cells
     element-write-cells
-    sub-cells
-    mul-cells-2
-    element-write-cells-2
     mul-old
     element-copy-out-old
-    mul-cells-3
-    element-write-cells-3
+    mul-cells-2
+    element-write-cells-2
     returns-3)

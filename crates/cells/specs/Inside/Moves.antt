@@ -23,6 +23,13 @@ pub record Shifted (cells : List ℕ) (base i : ℕ) (after : List ℕ) : Type 0
   pub moved : (m : ℕ) → m + 1 < i → getD after (base + m) 0 ≡ getD cells (base + (m + 1)) 0
   pub still : (z : ℕ) → ((m : ℕ) → m + 1 < i → base + m ≡ z → ⊥) → getD after z 0 ≡ getD cells z 0
 
+-- of the sixteen cells from base on, each is the one behind it now, and the last is zero
+pub record Dropped (cells : List ℕ) (base : ℕ) (after : List ℕ) : Type 0 where
+  pub long : length after ≡ 1152
+  pub moved : (m : ℕ) → m < 15 → getD after (base + m) 0 ≡ getD cells (base + (m + 1)) 0
+  pub last : getD after (base + 15) 0 ≡ 0
+  pub still : (z : ℕ) → ((m : ℕ) → m < 16 → base + m ≡ z → ⊥) → getD after z 0 ≡ getD cells z 0
+
 -- of a time with its word and a signal's first time x with its bit, the earlier, or both
 pub record Nearer (x one time word : ℕ) (t w : ℕ) : Type 0 where
   pub earlier : x < time → (t ≡ x) × (w ≡ one)
