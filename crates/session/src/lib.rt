@@ -9,6 +9,7 @@ ghost use Rattle.layout.proofs.Tables.{decodeTable};
 ghost use Rattle.cells.specs.Cells.{truth, FitFor, Due};
 ghost use Rattle.machine.specs.Inside.Steps.{signalsOf};
 ghost use Rattle.machine.specs.Inside.Units.{Planned};
+ghost use Rattle.machine.specs.Inside.Relays.{Relayed};
 ghost use Rattle.cycles.specs.Inside.Turns.{sessionOf};
 ghost use Rattle.session.specs.Sessions.{sessionIn, FitHeld, PostsAs, TakesAs, CycleAs};
 ghost use Rattle.session.specs.Inside.Goings.{GoesAs, Fresh, AllOf};
@@ -58,19 +59,34 @@ fn fresh(table: &[u64]) -> [u64; 1152]
 }
 
 // The start, on cells that are not read: every process runs once, then cycles at 0.
-pub fn begin(cells: &mut [u64; 1152], table: &[u64], plan: &[u64], out: &mut [u8]) -> Answer
+pub fn begin(
+    cells: &mut [u64; 1152],
+    table: &[u64],
+    plan: &[u64],
+    relays: &[u64; 256],
+    out: &mut [u8],
+) -> Answer
     requires { ⌜ FitTableWords (now table) ⌝ }
     requires { ⌜ 4096 ≤ length (now out) ⌝ }
     requires { ⌜ Planned (now table) (now plan) ⌝ }
+    requires { ⌜ Relayed (now table) (now relays) ⌝ }
     ensures { λ r. ⌜ GoesAs (start (runners (decodeTable (now (table .entry)))) (decodeTable (now (table .entry)) .initial)) (signalsOf (now (table .entry))) (now (cells .entry)) (now (out .entry)) r (now (cells .exit)) (now (out .exit)) ⌝ }
 {
     let c = fresh(table);
     *cells = c;
     let count = table[0] as usize;
     let woken = all_of(table[1]);
-    match cycles::wake(cells, table, plan, woken, 0, 0) {
+    match cycles::wake(cells, table, plan, relays, woken, 0, 0) {
         Ran::Full => Answer::Refused(15),
-        Ran::Done { steps: s, due: d } => match cycles::settle(cells, table, plan, d, 0, s) {
+        Ran::Done { steps: s, due: d } => match cycles::settle(
+            cells,
+            table,
+            plan,
+            relays,
+            d,
+            0,
+            s,
+        ) {
             Settled::Refuses(r) => Answer::Refused(r),
             Settled::Settles {
                 cycles: c,
@@ -94,6 +110,7 @@ pub fn forward(
     cells: &mut [u64; 1152],
     table: &[u64],
     plan: &[u64],
+    relays: &[u64; 256],
     stop: u64,
     out: &mut [u8],
 ) -> Answer
@@ -102,6 +119,7 @@ pub fn forward(
     requires { ⌜ stop ≤ 1000000000000000000 ⌝ }
     requires { ⌜ 4096 ≤ length (now out) ⌝ }
     requires { ⌜ Planned (now table) (now plan) ⌝ }
+    requires { ⌜ Relayed (now table) (now relays) ⌝ }
     ensures { λ r. ⌜ ((was : ℕ) → GoesAs (advance (runners (decodeTable (now (table .entry)))) stop (sessionOf was (signalsOf (now (table .entry))) (now (cells .entry)))) (signalsOf (now (table .entry))) (now (cells .entry)) (now (out .entry)) r (now (cells .exit)) (now (out .exit))) ⌝ }
 {
     let count = table[0] as usize;
@@ -111,7 +129,7 @@ pub fn forward(
             if stop < t {
                 return Answer::StopReached;
             }
-            match cycles::settle(cells, table, plan, d, t, 0) {
+            match cycles::settle(cells, table, plan, relays, d, t, 0) {
                 Settled::Refuses(r) => Answer::Refused(r),
                 Settled::Settles {
                     cycles: c,
@@ -185,7 +203,15 @@ impl Session {
     }
 
     // Runs a cycle at a time, with so many steps so far.
-    pub fn cycle(mut self, table: &[u64], plan: &[u64], due: u64, time: u64, already: u64) -> Cycled
+    pub fn cycle(
+        mut self,
+        table: &[u64],
+        plan: &[u64],
+        relays: &[u64; 256],
+        due: u64,
+        time: u64,
+        already: u64,
+    ) -> Cycled
         requires { ⌜ FitHeld self ⌝ }
         requires { ⌜ FitTableWords (now table) ⌝ }
         requires { ⌜ self .count ≡ signalsOf (now table) ⌝ }
@@ -193,9 +219,10 @@ impl Session {
         requires { ⌜ time ≤ 1000000000000000000 ⌝ }
         requires { ⌜ already ≤ 900000000000000000 ⌝ }
         requires { ⌜ Planned (now table) (now plan) ⌝ }
+        requires { ⌜ Relayed (now table) (now relays) ⌝ }
         ensures { λ r. ⌜ CycleAs (runners (decodeTable (now (table .entry)))) self time already (r .ran) (r .session) ⌝ }
     {
-        let went = cycles::cycle(&mut self.cells, table, plan, due, time, already);
+        let went = cycles::cycle(&mut self.cells, table, plan, relays, due, time, already);
         let ran = went.ran;
         self.time = time;
         Cycled {

@@ -6,7 +6,7 @@ use Rattle.rules.specs.Calls.{start}
 use Rattle.table.specs.Table.{runners}
 use Rattle.layout.proofs.Tables.{decodeTable}
 use Rattle.machine.specs.Inside.Steps.{signalsOf}
-use Rattle.cycles.proofs.Waking.{few-processes}
+use Rattle.machine.proofs.Fetching.{few-processes}
 use Rattle.writing.proofs.Buffers.{writes-length}
 use Rattle.session.proofs.Goes.{goes-refused, goes-moved}
 use Rattle.session.proofs.Beginning.{begin-full, due-after, begin-refused, begin-moved}
