@@ -3,14 +3,15 @@
 
 #include "../measure.h"
 
-uint64_t run_bench_begin(uint64_t *cells, const uint64_t *table, size_t table_length, uint8_t *out, size_t out_length);
-uint64_t run_bench_forward(uint64_t *cells, const uint64_t *table, size_t table_length, uint64_t stop, uint8_t *out, size_t out_length);
+void run_bench_relays(const uint64_t *table, size_t table_length, uint64_t *relays);
+uint64_t run_bench_begin(uint64_t *cells, const uint64_t *table, size_t table_length, const uint64_t *relays, uint8_t *out, size_t out_length);
+uint64_t run_bench_forward(uint64_t *cells, const uint64_t *table, size_t table_length, const uint64_t *relays, uint64_t stop, uint8_t *out, size_t out_length);
 uint64_t run_bench_start(const uint64_t *table, size_t table_length, uint64_t *words, size_t length, uint8_t *out, size_t out_length);
 uint64_t run_bench_advance(const uint64_t *table, size_t table_length, uint64_t *words, size_t length, uint64_t stop, uint8_t *out, size_t out_length);
 
 enum { TABLE = 8387, SESSION = 1154, OUT = 4096, ADVANCES = 1000, ROUNDS = 301 };
 
-static uint64_t table[TABLE], words[SESSION], cells[SESSION - 2];
+static uint64_t table[TABLE], words[SESSION], cells[SESSION - 2], relays[256];
 static uint8_t out[OUT];
 static const uint64_t stop = 1000000000000000000u;
 
@@ -62,11 +63,13 @@ static void measure(const char *name, void (*make)(void))
     static double inner[ROUNDS], outer[ROUNDS];
     memset(table, 0, sizeof table);
     make();
+    memset(relays, 0, sizeof relays);
+    run_bench_relays(table, TABLE, relays);
     for (int r = 0; r < ROUNDS; r++) {
-        run_bench_begin(cells, table, TABLE, out, OUT);
+        run_bench_begin(cells, table, TABLE, relays, out, OUT);
         double from = nanoseconds();
         for (int i = 0; i < ADVANCES; i++)
-            if (!run_bench_forward(cells, table, TABLE, stop, out, OUT))
+            if (!run_bench_forward(cells, table, TABLE, relays, stop, out, OUT))
                 exit(1);
         inner[r] = (nanoseconds() - from) / ADVANCES;
         run_bench_start(table, TABLE, words, SESSION, out, OUT);

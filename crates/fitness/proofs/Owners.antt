@@ -10,6 +10,7 @@ use lib.ListN.{getD, length, drop, replicate, length-replicate, length-drop}
 use lib.Seq.{getD-take, getD-drop, length-take-le}
 use borrow.Author.Tests.{eqb-true, eq-eqb}
 use Rattle.laws.proofs.Cases.{same-or, some}
+use Rattle.laws.proofs.Lists.{zero-at}
 use Rattle.laws.proofs.Deciding.{differ}
 use Rattle.table.specs.Instructions.{Instruction, name, literal, negation, binary, assignment, test, skip}
 use Rattle.table.specs.Table.{Table, begins, part, posts}
@@ -19,7 +20,6 @@ use Rattle.fitness.specs.Inside.Parts.{Rows}
 use Rattle.fitness.specs.Inside.Drivers.{Posts, Drives, Alone, Owned}
 use Rattle.fitness.proofs.Reading.{rows-climb, row-same}
 use Rattle.fitness.proofs.Kind.{Kind}
-use Rattle.fitness.proofs.Passes.{zero-at}
 
 -- THE PASS
 

@@ -12,6 +12,7 @@ use lib.Seq.{getD-set-same, getD-set-other}
 use borrow.Author.Tests.{eqb-false, leb-true, le-leb, ne-eqb, not-true}
 use Rattle.laws.specs.Pick.{pick}
 use Rattle.laws.proofs.Cases.{same-or, some}
+use Rattle.laws.proofs.Lists.{zero-at}
 use Rattle.laws.proofs.Deciding.{differ}
 use Rattle.table.specs.Instructions.{Instruction, takes, leaves}
 use Rattle.table.specs.Table.{Table, begins}
@@ -242,11 +243,6 @@ pub passed-not : (code : List Instruction) (from upto : ℕ) (gs : List ℕ) →
 passed-not code from upto gs n = record { holds = λ e. differ (sym e); fails = λ e. n; fresh = λ e. differ (sym e) }
 
 -- ALL PROCESSES
-
-pub zero-at : (n j : ℕ) → _≡_ {A = ℕ} (getD (replicate n 0) j 0) 0
-zero-at zero j = refl
-zero-at (suc n) zero = refl
-zero-at (suc n) (suc j) = zero-at n j
 
 pub fresh-first : Fresh 0 (set (replicate 4097 0) 0 1)
 fresh-first =

@@ -1,4 +1,4 @@
--- A list from place i on, while a loop walks it; a list that a loop copies; and when two lists of numbers are the same.
+-- A list from place i on, while a loop walks it; a list that a loop copies; when two lists of numbers are the same; and lists of zeros.
 -- Assumes nothing.
 use mathlib.Core.Path.{_≡_, refl, sym, ap, _∙_}
 use mathlib.Core.Bool.{Bool, true, false}
@@ -9,7 +9,7 @@ use native.Mathlib.Nat.{le-refl}
 use native.Mathlib.Omega.{arith}
 use borrow.Author.Tests.{eqb-true, eq-eqb}
 use lib.Dec.{eqb}
-use lib.ListN.{length, drop, take, getD, set, length-drop, length-take}
+use lib.ListN.{length, drop, take, getD, set, replicate, length-drop, length-take}
 use lib.Seq.{drop-cons, take-all, take-suc, sets}
 use Rattle.laws.specs.Pick.{pick, sameList}
 
@@ -50,3 +50,8 @@ pub copied-more : (out : List ℕ) (at i : ℕ) (text mid : List ℕ) → i < le
 copied-more out at i text mid l e =
     rw (take-suc text i 0 l, sets-append out at (take i text) (getD text i 0 ∷ []), ← e)
     (ap (λ j. set mid (at + j) (getD text i 0)) (sym (length-take i text ∙ omega arith)))
+
+pub zero-at : (n i : ℕ) → _≡_ {A = ℕ} (getD (replicate n 0) i 0) 0
+zero-at zero i = refl
+zero-at (suc n) zero = refl
+zero-at (suc n) (suc i) = zero-at n i

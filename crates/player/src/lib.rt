@@ -11,6 +11,7 @@ ghost use Rattle.layout.specs.TableWords.{FitTableWords};
 ghost use Rattle.cells.specs.Cells.{FitFor};
 ghost use Rattle.machine.specs.Inside.Steps.{signalsOf};
 ghost use Rattle.machine.specs.Inside.Units.{Planned};
+ghost use Rattle.machine.specs.Inside.Relays.{Relayed};
 ghost use Rattle.player.specs.Inside.Turns.{Went};
 
 // Writes the first so many bytes.
@@ -32,6 +33,7 @@ fn take_turn(
     cells: &mut [u64; 1152],
     table: &[u64],
     plan: &[u64],
+    relays: &[u64; 256],
     stop: u64,
     out: &mut [u8],
     count: usize,
@@ -42,10 +44,11 @@ fn take_turn(
     requires { ⌜ length (now out) ≡ 36864 ⌝ }
     requires { ⌜ count ≤ 32768 ⌝ }
     requires { ⌜ Planned (now table) (now plan) ⌝ }
+    requires { ⌜ Relayed (now table) (now relays) ⌝ }
     ensures { λ r. ⌜ Went (signalsOf (now (table .entry))) r (now (cells .exit)) ⌝ }
     ensures { λ _. ⌜ length (now (out .exit)) ≡ 36864 ⌝ }
 {
-    match forward(cells, table, plan, stop, &mut out[count..]) {
+    match forward(cells, table, plan, relays, stop, &mut out[count..]) {
         Answer::Moves {
             bytes,
             time: _,
@@ -72,6 +75,7 @@ fn go_on(
     cells: &mut [u64; 1152],
     table: &[u64],
     plan: &[u64],
+    relays: &[u64; 256],
     stop: u64,
     out: &mut [u8],
     first: usize,
@@ -82,6 +86,7 @@ fn go_on(
     requires { ⌜ length (now out) ≡ 36864 ⌝ }
     requires { ⌜ first ≤ 36864 ⌝ }
     requires { ⌜ Planned (now table) (now plan) ⌝ }
+    requires { ⌜ Relayed (now table) (now relays) ⌝ }
 {
     let mut count = first;
     let mut turns = u64::MAX;
@@ -91,7 +96,7 @@ fn go_on(
             flush(out, count);
             count = 0;
         }
-        match take_turn(cells, table, plan, stop, out, count) {
+        match take_turn(cells, table, plan, relays, stop, out, count) {
             Turn::Wrote(bytes) => {
                 count = more(count, bytes);
             }
@@ -108,15 +113,16 @@ fn go_on(
     }
 }
 
-// Plays a table with a plan of it.
-fn play_planned(table: &[u64], plan: &[u64], stop: u64)
+// Plays a table with a plan and a list of relays of it.
+fn play_planned(table: &[u64], plan: &[u64], relays: &[u64; 256], stop: u64)
     requires { ⌜ FitTableWords (now table) ⌝ }
     requires { ⌜ stop ≤ 1000000000000000000 ⌝ }
     requires { ⌜ Planned (now table) (now plan) ⌝ }
+    requires { ⌜ Relayed (now table) (now relays) ⌝ }
 {
     let mut cells = [0u64; 1152];
     let mut out = [0u8; 36864];
-    match begin(&mut cells, table, plan, &mut out) {
+    match begin(&mut cells, table, plan, relays, &mut out) {
         Answer::Moves {
             bytes,
             time: _,
@@ -124,7 +130,7 @@ fn play_planned(table: &[u64], plan: &[u64], stop: u64)
             steps: _,
         } => {
             let count = more(0, bytes);
-            go_on(&mut cells, table, plan, stop, &mut out, count);
+            go_on(&mut cells, table, plan, relays, stop, &mut out, count);
         }
         Answer::Refused(number) => {
             say_refused(number, 0);
@@ -139,11 +145,13 @@ pub fn play(table: &[u64], stop: u64)
     requires { ⌜ FitTableWords (now table) ⌝ }
     requires { ⌜ stop ≤ 1000000000000000000 ⌝ }
 {
+    let mut relays = [0u64; 256];
+    plan::list_relays(table, &mut relays);
     let mut plan = [0u64; 16384];
     let units = plan::make(table, &mut plan);
     if units == 0 {
-        play_planned(table, &table[..0], stop);
+        play_planned(table, &table[..0], &relays, stop);
     } else {
-        play_planned(table, &plan, stop);
+        play_planned(table, &plan, &relays, stop);
     }
 }

@@ -54,7 +54,8 @@ pub fn start_fit(table: &[u64], words: &mut [u64], out: &mut [u8]) -> Answer
     ensures { λ r. ⌜ ((f : FitTableWords (now (table .entry))) → Gives (calls.start (runners (f .table)) (f .table .initial)) (now (words .entry)) (now (out .entry)) r (now (words .exit)) (now (out .exit))) ⌝ }
 {
     let mut cells = [0u64; 1152];
-    match session::begin(&mut cells, table, &table[..0], out) {
+    let relays = [0u64; 256];
+    match session::begin(&mut cells, table, &table[..0], &relays, out) {
         Answer::Moves {
             bytes: b,
             time: t,
@@ -84,7 +85,8 @@ pub fn advance_fit(table: &[u64], words: &mut [u64], stop: u64, out: &mut [u8]) 
     ensures { λ r. ⌜ ((f : FitTableWords (now (table .entry))) (s : FitSessionWords (f .table) (now (words .entry))) → Gives (calls.advance (runners (f .table)) stop (s .session)) (now (words .entry)) (now (out .entry)) r (now (words .exit)) (now (out .exit))) ⌝ }
 {
     let mut cells = load(words);
-    match session::forward(&mut cells, table, &table[..0], stop, out) {
+    let relays = [0u64; 256];
+    match session::forward(&mut cells, table, &table[..0], &relays, stop, out) {
         Answer::Moves {
             bytes: b,
             time: t,

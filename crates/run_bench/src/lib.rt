@@ -4,6 +4,7 @@ ghost use lib.ListN.{length};
 ghost use Rattle.layout.specs.TableWords.{FitTableWords};
 ghost use Rattle.cells.specs.Cells.{FitFor};
 ghost use Rattle.machine.specs.Inside.Steps.{signalsOf};
+ghost use Rattle.machine.specs.Inside.Relays.{Relayed};
 use session::Answer;
 
 fn time_of(answer: Answer) -> u64 {
@@ -18,13 +19,28 @@ fn time_of(answer: Answer) -> u64 {
     }
 }
 
+// Lists the relays of a table in words that are all zero.
+#[no_mangle]
+pub extern "C" fn run_bench_relays(table: &[u64], relays: &mut [u64; 256])
+    requires { ⌜ FitTableWords (now table) ⌝ }
+    requires { ⌜ Relayed (now table) (now relays) ⌝ }
+{
+    plan::list_relays(table, relays);
+}
+
 // The start on cells, without a test of fitness.
 #[no_mangle]
-pub extern "C" fn run_bench_begin(cells: &mut [u64; 1152], table: &[u64], out: &mut [u8]) -> u64
+pub extern "C" fn run_bench_begin(
+    cells: &mut [u64; 1152],
+    table: &[u64],
+    relays: &[u64; 256],
+    out: &mut [u8],
+) -> u64
     requires { ⌜ FitTableWords (now table) ⌝ }
+    requires { ⌜ Relayed (now table) (now relays) ⌝ }
     requires { ⌜ 4096 ≤ length (now out) ⌝ }
 {
-    time_of(session::begin(cells, table, &table[..0], out))
+    time_of(session::begin(cells, table, &table[..0], relays, out))
 }
 
 // An advance on cells, without a test of fitness.
@@ -32,15 +48,17 @@ pub extern "C" fn run_bench_begin(cells: &mut [u64; 1152], table: &[u64], out: &
 pub extern "C" fn run_bench_forward(
     cells: &mut [u64; 1152],
     table: &[u64],
+    relays: &[u64; 256],
     stop: u64,
     out: &mut [u8],
 ) -> u64
     requires { ⌜ FitTableWords (now table) ⌝ }
+    requires { ⌜ Relayed (now table) (now relays) ⌝ }
     requires { ⌜ FitFor (signalsOf (now table)) (now cells) ⌝ }
     requires { ⌜ stop ≤ 1000000000000000000 ⌝ }
     requires { ⌜ 4096 ≤ length (now out) ⌝ }
 {
-    time_of(session::forward(cells, table, &table[..0], stop, out))
+    time_of(session::forward(cells, table, &table[..0], relays, stop, out))
 }
 
 // The start on lent words.

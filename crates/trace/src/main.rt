@@ -18,6 +18,7 @@ ghost use lib.ListN.{length};
 ghost use Rattle.layout.specs.TableWords.{FitTableWords};
 ghost use Rattle.cells.specs.Cells.{FitFor};
 ghost use Rattle.machine.specs.Inside.Steps.{signalsOf};
+ghost use Rattle.machine.specs.Inside.Relays.{Relayed};
 
 // How many bytes of lines are gathered, and whether the advance was the last.
 struct Told {
@@ -29,6 +30,7 @@ struct Told {
 fn advance(
     cells: &mut [u64; 1152],
     table: &[u64],
+    relays: &[u64; 256],
     stop: u64,
     out: &mut [u8],
     lines: &mut [u8],
@@ -39,10 +41,11 @@ fn advance(
     requires { ⌜ stop ≤ 1000000000000000000 ⌝ }
     requires { ⌜ length (now out) ≡ 4096 ⌝ }
     requires { ⌜ count ≤ length (now lines) ⌝ }
+    requires { ⌜ Relayed (now table) (now relays) ⌝ }
     ensures { λ r. ⌜ (r .last ≡ false → FitFor (signalsOf (now (table .entry))) (now (cells .exit))) ⌝ }
     ensures { λ r. ⌜ r .count ≤ length (now (lines .exit)) ⌝ }
 {
-    match forward(cells, table, &table[..0], stop, out) {
+    match forward(cells, table, &table[..0], relays, stop, out) {
         Answer::Moves {
             bytes,
             time,
@@ -75,6 +78,7 @@ fn advance(
 fn go_on(
     cells: &mut [u64; 1152],
     table: &[u64],
+    relays: &[u64; 256],
     stop: u64,
     out: &mut [u8],
     lines: &mut [u8],
@@ -86,6 +90,7 @@ fn go_on(
     requires { ⌜ length (now out) ≡ 4096 ⌝ }
     requires { ⌜ length (now lines) ≡ 36864 ⌝ }
     requires { ⌜ first ≤ length (now lines) ⌝ }
+    requires { ⌜ Relayed (now table) (now relays) ⌝ }
 {
     let mut count = first;
     let mut turns = u64::MAX;
@@ -95,7 +100,7 @@ fn go_on(
             say::flush(lines, count);
             count = 0;
         }
-        let told = advance(cells, table, stop, out, lines, count);
+        let told = advance(cells, table, relays, stop, out, lines, count);
         count = told.count;
         if told.last {
             say::flush(lines, count);
@@ -104,16 +109,17 @@ fn go_on(
     }
 }
 
-// The start and the advances; the lines go behind the first so many bytes.
-fn run(table: &[u64], stop: u64, lines: &mut [u8], count: usize)
+// The start and the advances of a table whose relays are listed; the lines go behind the first so many bytes.
+fn run_listed(table: &[u64], relays: &[u64; 256], stop: u64, lines: &mut [u8], count: usize)
     requires { ⌜ FitTableWords (now table) ⌝ }
     requires { ⌜ stop ≤ 1000000000000000000 ⌝ }
     requires { ⌜ length (now lines) ≡ 36864 ⌝ }
     requires { ⌜ count ≤ length (now lines) ⌝ }
+    requires { ⌜ Relayed (now table) (now relays) ⌝ }
 {
     let mut cells = [0u64; 1152];
     let mut out = [0u8; 4096];
-    match begin(&mut cells, table, &table[..0], &mut out) {
+    match begin(&mut cells, table, &table[..0], relays, &mut out) {
         Answer::Moves {
             bytes,
             time,
@@ -121,7 +127,7 @@ fn run(table: &[u64], stop: u64, lines: &mut [u8], count: usize)
             steps,
         } => {
             let first = say::moved(lines, count, b"start", bytes, time, cycles, steps);
-            go_on(&mut cells, table, stop, &mut out, lines, first);
+            go_on(&mut cells, table, relays, stop, &mut out, lines, first);
         }
         Answer::Refused(number) => {
             say::flush(lines, count);
@@ -130,6 +136,18 @@ fn run(table: &[u64], stop: u64, lines: &mut [u8], count: usize)
         Answer::Quiet => {}
         Answer::StopReached => {}
     }
+}
+
+// The start and the advances.
+fn run(table: &[u64], stop: u64, lines: &mut [u8], count: usize)
+    requires { ⌜ FitTableWords (now table) ⌝ }
+    requires { ⌜ stop ≤ 1000000000000000000 ⌝ }
+    requires { ⌜ length (now lines) ≡ 36864 ⌝ }
+    requires { ⌜ count ≤ length (now lines) ⌝ }
+{
+    let mut relays = [0u64; 256];
+    plan::list_relays(table, &mut relays);
+    run_listed(table, &relays, stop, lines, count);
 }
 
 // The calls of an accepted text, whose header has so many bytes.

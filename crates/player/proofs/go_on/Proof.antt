@@ -12,10 +12,10 @@ use Rattle.player.proofs.go_on.Statement.{statement}
 use Rattle.player.proofs.go_on.Tie as tie
 
 abbrev Inv-loop : tie.InvT-loop
-Inv-loop cells₀ table plan stop out₀ first count₀ turns₀ cells out count turns = FitFor (signalsOf table) cells × (length out ≡ 36864) × (count ≤ 36864)
+Inv-loop cells₀ table plan relays stop out₀ first count₀ turns₀ cells out count turns = FitFor (signalsOf table) cells × (length out ≡ 36864) × (count ≤ 36864)
 
 abbrev μ-loop : tie.MeasureT-loop
-μ-loop cells₀ table plan stop out₀ first count₀ turns₀ cells out count turns = turns
+μ-loop cells₀ table plan relays stop out₀ first count₀ turns₀ cells out count turns = turns
 
 loop-holds : tie.Need-loop-holds Inv-loop μ-loop
 loop-holds c = search needs

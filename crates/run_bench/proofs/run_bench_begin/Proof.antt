@@ -10,7 +10,7 @@ slice-aggregate-begin : tie.Need-slice-aggregate-begin
 slice-aggregate-begin c = search needs
 
 begin-requires : tie.Need-begin-requires
-begin-requires c κs = (c .before .before .before .before .before .pre .0, (c .before .before .before .before .before .pre .1, planned-empty (c .before .before .before .before .before .args .table .now)))
+begin-requires c κs = (c .before .before .before .before .before .pre .0, (c .before .before .before .before .before .pre .1 .1, (planned-empty (c .before .before .before .before .before .args .table .now), c .before .before .before .before .before .pre .1 .0)))
 
 time-of-requires : tie.Need-time-of-requires
 time-of-requires c κs = search needs

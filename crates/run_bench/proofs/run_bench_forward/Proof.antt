@@ -10,7 +10,7 @@ slice-aggregate-forward : tie.Need-slice-aggregate-forward
 slice-aggregate-forward c = search needs
 
 forward-requires : tie.Need-forward-requires
-forward-requires c κs = (c .before .before .before .before .before .pre .0, (c .before .before .before .before .before .pre .1 .0, (c .before .before .before .before .before .pre .1 .1 .0, (c .before .before .before .before .before .pre .1 .1 .1, planned-empty (c .before .before .before .before .before .args .table .now)))))
+forward-requires c κs = (c .before .before .before .before .before .pre .0, (c .before .before .before .before .before .pre .1 .1 .0, (c .before .before .before .before .before .pre .1 .1 .1 .0, (c .before .before .before .before .before .pre .1 .1 .1 .1, (planned-empty (c .before .before .before .before .before .args .table .now), c .before .before .before .before .before .pre .1 .0)))))
 
 time-of-requires : tie.Need-time-of-requires
 time-of-requires c κs = search needs

@@ -12,7 +12,7 @@ slice-aggregate-forward : tie.Need-slice-aggregate-forward
 slice-aggregate-forward c = search needs
 
 forward-requires : tie.Need-forward-requires
-forward-requires c κs = (search needs, (search needs, (search needs, (omega (arith, c .before .before .before .before .before .before .pre .1 .1 .1 .0), planned-empty (c .before .before .before .before .before .before .args .table .now)))))
+forward-requires c κs = (search needs, (search needs, (search needs, (omega (arith, c .before .before .before .before .before .before .pre .1 .1 .1 .0), (planned-empty (c .before .before .before .before .before .before .args .table .now), c .before .before .before .before .before .before .pre .1 .1 .1 .1 .1)))))
 
 enum-known-bytes : tie.Need-enum-known-bytes
 enum-known-bytes c = search needs
