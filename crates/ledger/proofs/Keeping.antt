@@ -2,11 +2,12 @@
 -- Assumes nothing.
 use mathlib.Core.Path.{_≡_, refl, ap, _∙_}
 use mathlib.Core.Bool.{true, false, not}
-use mathlib.Core.List.{List, [], _∷_}
-use Prim.Native.Nat.{ℕ, zero, suc, _+_, _<_}
+use mathlib.Core.List.{List, _∷_}
+use Prim.Native.Nat.{ℕ, _+_, _<_}
 use native.Mathlib.Omega.{arith}
 use borrow.Author.Tests.{lt-ltb, le-ltb}
-use lib.ListN.{length, getD, set, length-set}
+use lib.ListN.{length, getD, set, length-set, replicate, length-replicate}
+use Rattle.laws.proofs.Lists.{zero-at}
 use lib.Seq.{getD-set-same, getD-set-other}
 use Rattle.words.specs.Token.{Name}
 use Rattle.look.specs.declared.Look.{Look}
@@ -92,19 +93,6 @@ there-span x = record { rising = omega (arith, x .some); inside = x .inside }
 
 -- A FRESH LEDGER
 
-abbrev pub zeros : ℕ → List ℕ
-zeros zero = []
-zeros (suc n) = 0 ∷ zeros n
-
-zeros-at : (n k : ℕ) → getD (zeros n) k 0 ≡ 0
-zeros-at zero k = refl
-zeros-at (suc n) zero = refl
-zeros-at (suc n) (suc k) = zeros-at n k
-
-zeros-length : (n : ℕ) → length (zeros n) ≡ n
-zeros-length zero = refl
-zeros-length (suc n) = ap suc (zeros-length n)
-
 all-zero : (t l : List ℕ) → length l ≡ 328 → ((k : ℕ) → getD l k 0 ≡ 0) → Keeps 0 t l (fine nothingYet)
 unfolding namesFrom
 all-zero t l e f =
@@ -123,8 +111,8 @@ all-zero t l e f =
       drivers = λ k h. rw (f (264 + k)) record { earlierOnes = refl; lastOne = refl; known = omega arith };
     }
 
-pub fresh-keeps : (t : List ℕ) → Keeps 0 t (zeros 328) (fine nothingYet)
-fresh-keeps t = all-zero t (zeros 328) (zeros-length 328) (zeros-at 328)
+pub fresh-keeps : (t : List ℕ) → Keeps 0 t (replicate 328 0) (fine nothingYet)
+fresh-keeps t = all-zero t (replicate 328 0) (length-replicate {A = ℕ} 328 0) (zero-at 328)
 
 -- WHAT A STATE IS by the words
 
