@@ -10,7 +10,7 @@ use lib.ListN.{length}
 use borrow.Author.Tests.{ne-eqb}
 use Rattle.laws.specs.Pick.{within}
 use Rattle.laws.proofs.Ranges.{Ranged, ranged, below, inside, above, within-below, within-above}
-use Rattle.words.specs.Token.{Token, Chain, NOT, OPEN, CLOSE, name, literal, chain}
+use Rattle.words.specs.Token.{Token, Chain, NOT, OPEN, CLOSE, chain}
 use Rattle.syntax.specs.Tree.{Design, expression, alone, joined, chained, enough, more, plain, negated, named, constant, bracketed}
 use Rattle.syntax.proofs.Machine.{Values, Step, weights}
 use Rattle.syntax.proofs.Rows.{Place, inBrackets, Symbol, Value, next, aPrimary, aFactor, anEnd, anyOnce, anyChain, theChain, theFixed, anExpression as expressionAt, aTail as tailAt, aMore as moreAt}

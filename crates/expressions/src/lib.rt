@@ -7,12 +7,46 @@ use look::Look;
 use look::peek;
 use reading::Spot;
 use reading::word;
-ghost use Prim.Native.Nat.{_≤_, _<_};
+ghost use Prim.Native.Nat.{ℕ, _≤_, _<_};
+ghost use mathlib.Core.Path.{_≡_};
+ghost use mathlib.Core.List.{List};
+ghost use lib.ListN.{length};
 ghost use Rattle.syntax.proofs.Rows.{aPrimary, aFactor};
 ghost use Rattle.names.specs.Roles.{primaryRoles, factorRoles};
 ghost use Rattle.emission.specs.Inside.Draft.{primaryDraft, factorDraft};
-ghost use Rattle.look.specs.Inside.Looks.{chainOf};
+ghost use Rattle.table.specs.Instructions.{Instruction};
+ghost use Rattle.layout.specs.TableWords.{operationWord};
+ghost use Rattle.look.specs.Inside.Looks.{lookOf, chainOf, literalOf};
+ghost use Rattle.ledger.specs.Inside.Standing.{Held};
 ghost use Rattle.reading.specs.Inside.Reading.{Ready, Reads, whole, anExpression, aTail, aMore};
+
+// A name, which is the next token.
+fn signal(text: &[u8], ledger: &mut [u64; 328], table: &mut [u64], p: Spot, t: Look) -> Spot
+    requires { ⌜ Ready 0 (now text) p (now ledger) × (p .number ≡ 0) × (t ≡ lookOf (now text) (p .at)) × (t .kind ≡ 108) ⌝ }
+    ensures { λ r. ⌜ ((room : ℕ) → Reads (whole aPrimary primaryRoles primaryDraft) (now (text .entry)) room p r (now (ledger .entry)) (now (ledger .exit)) (now (table .entry)) (now (table .exit))) ⌝ }
+{
+    let k = read_signal(text, ledger, t.start, t.end);
+    let n = emit(table, p.next, (16 * k) as u64, 0);
+    Spot {
+        number: 0,
+        at: t.end,
+        next: n,
+    }
+}
+
+// A literal, which is the next token, by its operation.
+fn literal(ledger: &mut [u64; 328], table: &mut [u64], p: Spot, t: Look, operation: u64) -> Spot
+    requires { ⌜ Held 0 (now ledger) × (p .number ≡ 0) × (22 ≤ t .kind) × (t .kind < 24) × (operation ≡ operationWord (Instruction.literal (literalOf (t .kind)))) ⌝ }
+    ensures { λ r. ⌜ ((text : List ℕ) (room : ℕ) → p .at ≤ length text → t ≡ lookOf text (p .at) → Reads (whole aPrimary primaryRoles primaryDraft) text room p r (now (ledger .entry)) (now (ledger .exit)) (now (table .entry)) (now (table .exit))) ⌝ }
+{
+    count(ledger, 1, t.start);
+    let n = emit(table, p.next, operation, 0);
+    Spot {
+        number: 0,
+        at: t.end,
+        next: n,
+    }
+}
 
 // A name, a literal, or an expression in brackets.
 pub fn primary(
@@ -30,31 +64,13 @@ pub fn primary(
     }
     let t = peek(text, p.at);
     if t.kind == Look::NAME {
-        let k = read_signal(text, ledger, t.start, t.end);
-        let n = emit(table, p.next, (16 * k) as u64, 0);
-        return Spot {
-            number: 0,
-            at: t.end,
-            next: n,
-        };
+        return signal(text, ledger, table, p, t);
     }
     if t.kind == Look::TRUE {
-        count(ledger, 1, t.start);
-        let n = emit(table, p.next, 17, 0);
-        return Spot {
-            number: 0,
-            at: t.end,
-            next: n,
-        };
+        return literal(ledger, table, p, t, 17);
     }
     if t.kind == Look::FALSE {
-        count(ledger, 1, t.start);
-        let n = emit(table, p.next, 1, 0);
-        return Spot {
-            number: 0,
-            at: t.end,
-            next: n,
-        };
+        return literal(ledger, table, p, t, 1);
     }
     if t.kind != Look::OPEN {
         return Spot {

@@ -30,14 +30,14 @@ use Rattle.look.specs.declared.Look.{Look}
 use Rattle.look.specs.Inside.Looks.{part, nameAt, lookOf, tokenOfLook, unitOf}
 use Rattle.look.proofs.Looks.{seen, seen-there}
 use Rattle.look.proofs.Numbers.{takenBy, misfit, unit-token, name-seen, integer-seen, fixed-seen}
-use Rattle.ledger.specs.Inside.Standing.{Keeps, keepsFine, Judges, Numbers, Lasts}
+use Rattle.ledger.specs.Inside.Standing.{Span, Keeps, keepsFine, Judges, Numbers, Lasts}
 use Rattle.reading.specs.declared.Spot.{Spot}
 use Rattle.reading.specs.Inside.Spots.{verdict, drafted, Judged, addressed, past, unfit, deep, wordOf, endIfOf, starter, Stops, Forward}
 use Rattle.reading.specs.Inside.Reading.{What, anExpression, aStatement, someStatements, closes, onto, endingRoles, finishRoles, Reads}
 use Rattle.reading.proofs.Moves.{some-moves, deep-moves, stuck-moves, same-moves}
 use Rattle.reading.proofs.Judging.{fine-before, redrafted, put-drafted, put-judged, none-judged, then-judged, token-judged, passes-judged}
 use Rattle.reading.proofs.Words.{Only, worded, only-word}
-use Rattle.reading.proofs.Generic.{near, within-text, to-address}
+use Rattle.reading.proofs.Generic.{near, within-text, span, to-address}
 use Rattle.statements.specs.Inside.Ending.{anEnding, Ends}
 
 -- a delay that is not refused is not too long
@@ -54,6 +54,10 @@ clear (keepsFine d) = d .clear
 -- where it is refused, nothing is said of the delay
 pub ends-refused : {s : List ℕ} {room : ℕ} {p q : Spot} {delay : ℕ} {l l′ v : List ℕ} → (q .number ≡ 0 → ⊥) → Reads anEnding s room p q l l′ v v → Ends s room p q delay l l′ v
 ends-refused f d = record { reads = d; lasts = λ z y y′ k g. absurd (f z) }
+
+-- the integer behind `after`
+pub integer-span : {s : List ℕ} {at : ℕ} {i : Look} → at ≤ length s → lookOf s at .kind ≡ 10 → i ≡ lookOf s (lookOf s at .end) → i .kind ≡ 109 → Span s (i .start) (i .end)
+integer-span h k e g = span (seen-there h refl (λ z. omega arith) .inside) e (λ z. omega arith)
 
 -- [`after` integer unit] `;`
 abbrev afterStep : Step Value (anEnd inAssignment)

@@ -27,28 +27,12 @@ pub struct Ending {
     pub delay: u64,
 }
 
-// [`after` integer unit] `;`
-fn delay_end(text: &[u8], ledger: &mut [u64; 328], p: Spot) -> Ending
-    requires { ⌜ Ready 0 (now text) p (now ledger) ⌝ }
+// unit `;`, behind `after`, which stands at p, and the integer i.
+fn unit_end(text: &[u8], ledger: &mut [u64; 328], p: Spot, i: Look) -> Ending
+    requires { ⌜ Ready 0 (now text) p (now ledger) × (p .number ≡ 0) × (lookOf (now text) (p .at) .kind ≡ 10) ⌝ }
+    requires { ⌜ (i ≡ lookOf (now text) (lookOf (now text) (p .at) .end)) × (i .kind ≡ 109) ⌝ }
     ensures { λ r. ⌜ ((room : ℕ) (words : List ℕ) → Ends (now (text .entry)) room p (r .spot) (r .delay) (now (ledger .entry)) (now (ledger .exit)) words) ⌝ }
 {
-    if p.number != 0 {
-        return Ending { spot: p, delay: 0 };
-    }
-    let t = peek(text, p.at);
-    if t.kind != Look::AFTER {
-        let q = word(text, p, Look::SEMICOLON);
-        return Ending { spot: q, delay: 0 };
-    }
-    let i = peek(text, t.end);
-    if i.kind != Look::INTEGER {
-        let q = Spot {
-            number: 3,
-            at: i.start,
-            next: p.next,
-        };
-        return Ending { spot: q, delay: 0 };
-    }
     let u = peek(text, i.end);
     if u.kind < Look::FS {
         let q = Spot {
@@ -75,6 +59,31 @@ fn delay_end(text: &[u8], ledger: &mut [u64; 328], p: Spot) -> Ending
     };
     let q = word(text, here, Look::SEMICOLON);
     Ending { spot: q, delay }
+}
+
+// [`after` integer unit] `;`
+fn delay_end(text: &[u8], ledger: &mut [u64; 328], p: Spot) -> Ending
+    requires { ⌜ Ready 0 (now text) p (now ledger) ⌝ }
+    ensures { λ r. ⌜ ((room : ℕ) (words : List ℕ) → Ends (now (text .entry)) room p (r .spot) (r .delay) (now (ledger .entry)) (now (ledger .exit)) words) ⌝ }
+{
+    if p.number != 0 {
+        return Ending { spot: p, delay: 0 };
+    }
+    let t = peek(text, p.at);
+    if t.kind != Look::AFTER {
+        let q = word(text, p, Look::SEMICOLON);
+        return Ending { spot: q, delay: 0 };
+    }
+    let i = peek(text, t.end);
+    if i.kind != Look::INTEGER {
+        let q = Spot {
+            number: 3,
+            at: i.start,
+            next: p.next,
+        };
+        return Ending { spot: q, delay: 0 };
+    }
+    unit_end(text, ledger, p, i)
 }
 
 // An assignment, whose target is the next token.

@@ -1,16 +1,14 @@
 -- The readers of expressions meet their contracts: each return by its law. The nesting room falls along the cycle.
 -- Assumes nothing.
 use mathlib.Core.List.{List}
-use Rattle.look.specs.Inside.Looks.{chainOf, literalOf}
-use Rattle.table.specs.Instructions.{Instruction}
-use Rattle.layout.specs.TableWords.{operationWord}
+use Rattle.look.specs.Inside.Looks.{chainOf}
 use Rattle.look.proofs.Looks.{seen-there}
 use Rattle.reading.specs.declared.Spot.{Spot}
 use Rattle.reading.specs.Inside.Reading.{Ready, Reads, aMore}
-use Rattle.reading.proofs.Generic.{reads-off, span, ready-token, ready-pass, ready-reads, ready-at}
-use Rattle.expressions.proofs.Expressions.{primary-name, primary-literal, primary-none, primary-deep, primary-bracket, factor-plain, factor-not, expression-then, tail-low, tail-high, tail-once, tail-chain, chain-none, chain-more}
+use Rattle.reading.proofs.Generic.{reads-off, ready-token, ready-pass, ready-reads, ready-at}
+use Rattle.expressions.proofs.Expressions.{primary-none, primary-deep, primary-bracket, factor-plain, factor-not, expression-then, tail-low, tail-high, tail-once, tail-chain, chain-none, chain-more}
 use Prim.Native.Nat.{ℕ, _+_, _-_, _*_, _<_}
-use mathlib.Core.Path.{_≡_, refl, sym, ap}
+use mathlib.Core.Path.{_≡_, refl}
 use native.Mathlib.Omega.{arith}
 use borrow.Author.Needs.{needs}
 use lib.ListN.{length}
@@ -31,8 +29,9 @@ use Rattle.expressions.proofs.+chain+expression+factor+primary+tail.Lts
 use Rattle.expressions.proofs.tail.Reads as tail
 use Rattle.expressions.proofs.tail.Kinds as tail-kinds
 use Rattle.expressions.proofs.+chain+expression+factor+primary+tail.Lts-tail as tail-lts
+use Rattle.expressions.proofs.signal.Reads as signal-reads
+use Rattle.expressions.proofs.literal.Reads as literal-reads
 use Rattle.ledger.proofs.count.Reads as count-reads
-use Rattle.ledger.proofs.read_signal.Reads as read-signal-reads
 use Rattle.ledger.proofs.Keeping.{held}
 use Rattle.look.proofs.peek.Reads as peek-reads
 use Rattle.emission.proofs.binary.Reads as binary-reads
@@ -104,7 +103,7 @@ abbrev factor-in : ℕ → factor-lts.Claims
 factor-in t = (peek-reads.Asked, peek-reads.Learnt, primary-below t, primary.Post, count-reads.Asked, count-reads.Learnt, emit-reads.Asked, emit-reads.Learnt)
 
 abbrev primary-in : ℕ → primary-lts.Claims
-primary-in t = (peek-reads.Asked, peek-reads.Learnt, read-signal-reads.Asked, read-signal-reads.Learnt, emit-reads.Asked, emit-reads.Learnt, count-reads.Asked, count-reads.Learnt, expression-below t, expression.Post, word-reads.Asked, word-reads.Learnt)
+primary-in t = (peek-reads.Asked, peek-reads.Learnt, signal-reads.Asked, signal-reads.Learnt, literal-reads.Asked, literal-reads.Learnt, expression-below t, expression.Post, word-reads.Asked, word-reads.Learnt)
 
 abbrev tail-in : ℕ → tail-lts.Claims
 tail-in t = (peek-reads.Asked, peek-reads.Learnt, count-reads.Asked, count-reads.Learnt, factor-below t, factor.Post, binary-reads.Asked, binary-reads.Learnt, emit-reads.Asked, emit-reads.Learnt, chain-below t, chain.Post)
@@ -199,44 +198,32 @@ primary-returns t c = reads-off _ (c .before .before .before .before .pre .1 .in
 primary-peek-requires : (t : ℕ) → primary-lts.Need-peek-requires (primary-in t) (primary-at t) primary.Post
 primary-peek-requires t c κs = c .before .before .before .before .pre .1 .inside
 
-primary-read-signal-requires : (t : ℕ) → primary-lts.Need-read-signal-requires (primary-in t) (primary-at t) primary.Post
-primary-read-signal-requires t c κs = (c .before .before .before .before .before .before .before .before .pre .1 .sound (c .before .before .before .before .if1 .left), span (c .before .before .before .before .before .before .before .before .pre .1 .inside) (c .before .before .before .peek .ensures) (λ z. omega (arith, c .before .if2 .taken, z)))
-
-primary-mul-emit : (t : ℕ) → primary-lts.Need-mul-emit (primary-in t) (primary-at t) primary.Post
-primary-mul-emit t c = omega (arith, c .before .read-signal .ensures .1 .few)
-
-primary-emit-requires : (t : ℕ) → primary-lts.Need-emit-requires (primary-in t) (primary-at t) primary.Post
-primary-emit-requires t c κs = search needs
+primary-signal-requires : (t : ℕ) → primary-lts.Need-signal-requires (primary-in t) (primary-at t) primary.Post
+primary-signal-requires t c κs = (c .before .before .before .before .before .before .before .before .before .pre .1, c .before .before .before .before .before .if1 .left, c .before .before .before .before .peek .ensures, c .before .before .if2 .taken)
 
 primary-same-length : (t : ℕ) → primary-lts.Need-same-length (primary-in t) (primary-at t) primary.Post
 primary-same-length t c = search needs
 
 primary-returns-2 : (t : ℕ) → primary-lts.Need-returns-2 (primary-in t) (primary-at t) primary.Post
-primary-returns-2 t c = primary-name (c .before .before .before .before .before .before .before .before .before .before .before .before .before .pre .1 .inside) (c .before .before .before .before .before .before .before .before .before .if1 .left) (c .before .before .before .before .before .before .before .before .peek .ensures) (c .before .before .before .before .before .before .if2 .taken) (c .before .before .before .before .read-signal .ensures .0) (c .before .before .before .before .read-signal .ensures .1) (c .before .before .emit .ensures .0) (c .before .before .emit .ensures .1)
+primary-returns-2 t c = c .before .before .signal .ensures (c .before .before .before .before .before .before .before .before .before .before .before .before .args .room)
 
-primary-count-requires : (t : ℕ) → primary-lts.Need-count-requires (primary-in t) (primary-at t) primary.Post
-primary-count-requires t c κs = (held (c .before .before .before .before .before .before .before .before .before .before .pre .1 .sound (c .before .before .before .before .before .before .if1 .left)), omega arith)
-
-primary-emit-requires-2 : (t : ℕ) → primary-lts.Need-emit-requires-2 (primary-in t) (primary-at t) primary.Post
-primary-emit-requires-2 t c κs = search needs
+primary-literal-requires : (t : ℕ) → primary-lts.Need-literal-requires (primary-in t) (primary-at t) primary.Post
+primary-literal-requires t c κs = (held (c .before .before .before .before .before .before .before .before .before .before .before .pre .1 .sound (c .before .before .before .before .before .before .before .if1 .left)), c .before .before .before .before .before .before .before .if1 .left, omega (arith, c .before .before .if3 .taken), omega (arith, c .before .before .if3 .taken), rw (c .before .before .if3 .taken))
 
 primary-same-length-2 : (t : ℕ) → primary-lts.Need-same-length-2 (primary-in t) (primary-at t) primary.Post
 primary-same-length-2 t c = search needs
 
 primary-returns-3 : (t : ℕ) → primary-lts.Need-returns-3 (primary-in t) (primary-at t) primary.Post
-primary-returns-3 t c = primary-literal (c .before .before .before .before .before .before .before .before .before .before .before .before .before .before .before .pre .1 .inside) (c .before .before .before .before .before .before .before .before .before .before .before .if1 .left) (c .before .before .before .before .before .before .before .before .before .before .peek .ensures) (omega (arith, c .before .before .before .before .before .before .if3 .taken)) (omega (arith, c .before .before .before .before .before .before .if3 .taken)) (c .before .before .before .before .count .ensures (c .before .before .before .before .before .before .before .before .before .before .before .before .before .before .before .args .text .now)) (ap (λ k. operationWord (Instruction.literal (literalOf k))) (sym (c .before .before .before .before .before .before .if3 .taken))) (c .before .before .emit2 .ensures .0) (c .before .before .emit2 .ensures .1)
+primary-returns-3 t c = c .before .before .literal .ensures (c .before .before .before .before .before .before .before .before .before .before .before .before .before .before .args .text .now) (c .before .before .before .before .before .before .before .before .before .before .before .before .before .before .args .room) (c .before .before .before .before .before .before .before .before .before .before .before .before .before .before .pre .1 .inside) (c .before .before .before .before .before .before .before .before .before .peek .ensures)
 
-primary-count-requires-2 : (t : ℕ) → primary-lts.Need-count-requires-2 (primary-in t) (primary-at t) primary.Post
-primary-count-requires-2 t c κs = (held (c .before .before .before .before .before .before .before .before .before .before .before .before .pre .1 .sound (c .before .before .before .before .before .before .before .before .if1 .left)), omega arith)
-
-primary-emit-requires-3 : (t : ℕ) → primary-lts.Need-emit-requires-3 (primary-in t) (primary-at t) primary.Post
-primary-emit-requires-3 t c κs = search needs
+primary-literal-requires-2 : (t : ℕ) → primary-lts.Need-literal-requires-2 (primary-in t) (primary-at t) primary.Post
+primary-literal-requires-2 t c κs = (held (c .before .before .before .before .before .before .before .before .before .before .before .before .before .pre .1 .sound (c .before .before .before .before .before .before .before .before .before .if1 .left)), c .before .before .before .before .before .before .before .before .before .if1 .left, omega (arith, c .before .before .if4 .taken), omega (arith, c .before .before .if4 .taken), rw (c .before .before .if4 .taken))
 
 primary-same-length-3 : (t : ℕ) → primary-lts.Need-same-length-3 (primary-in t) (primary-at t) primary.Post
 primary-same-length-3 t c = search needs
 
 primary-returns-4 : (t : ℕ) → primary-lts.Need-returns-4 (primary-in t) (primary-at t) primary.Post
-primary-returns-4 t c = primary-literal (c .before .before .before .before .before .before .before .before .before .before .before .before .before .before .before .before .before .pre .1 .inside) (c .before .before .before .before .before .before .before .before .before .before .before .before .before .if1 .left) (c .before .before .before .before .before .before .before .before .before .before .before .before .peek .ensures) (omega (arith, c .before .before .before .before .before .before .if4 .taken)) (omega (arith, c .before .before .before .before .before .before .if4 .taken)) (c .before .before .before .before .count2 .ensures (c .before .before .before .before .before .before .before .before .before .before .before .before .before .before .before .before .before .args .text .now)) (ap (λ k. operationWord (Instruction.literal (literalOf k))) (sym (c .before .before .before .before .before .before .if4 .taken))) (c .before .before .emit3 .ensures .0) (c .before .before .emit3 .ensures .1)
+primary-returns-4 t c = c .before .before .literal2 .ensures (c .before .before .before .before .before .before .before .before .before .before .before .before .before .before .before .before .args .text .now) (c .before .before .before .before .before .before .before .before .before .before .before .before .before .before .before .before .args .room) (c .before .before .before .before .before .before .before .before .before .before .before .before .before .before .before .before .pre .1 .inside) (c .before .before .before .before .before .before .before .before .before .before .before .peek .ensures)
 
 primary-returns-5 : (t : ℕ) → primary-lts.Need-returns-5 (primary-in t) (primary-at t) primary.Post
 primary-returns-5 t c = primary-none (c .before .before .before .before .before .before .before .before .before .before .before .before .before .pre .1 .inside) (c .before .before .before .before .before .before .before .before .before .if1 .left) (c .before .before .before .before .before .before .before .before .peek .ensures) _ (c .before .before .before .before .before .before .if2 .left) (c .before .before .before .before .if3 .left) (c .before .before .if4 .left) (c .if5 .taken)
@@ -342,17 +329,13 @@ pub +chain+expression+factor+primary+tail-spec : {M : Type 1} → statement M
     primary.Post
     (primary-returns t)
     (primary-peek-requires t)
-    (primary-read-signal-requires t)
-    (primary-mul-emit t)
-    (primary-emit-requires t)
+    (primary-signal-requires t)
     (primary-same-length t)
     (primary-returns-2 t)
-    (primary-count-requires t)
-    (primary-emit-requires-2 t)
+    (primary-literal-requires t)
     (primary-same-length-2 t)
     (primary-returns-3 t)
-    (primary-count-requires-2 t)
-    (primary-emit-requires-3 t)
+    (primary-literal-requires-2 t)
     (primary-same-length-3 t)
     (primary-returns-4 t)
     (primary-returns-5 t)
