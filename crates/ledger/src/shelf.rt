@@ -1,5 +1,5 @@
 // Names kept in a ledger by their places in the text: each is two words, where it starts and where it ends.
-use words::vocabulary::lower;
+use words::vocabulary::same_word;
 ghost use mathlib.Core.Path.{_≡_};
 ghost use Prim.Native.Nat.{_+_, _<_, _≤_};
 ghost use lib.ListN.{length, getD, set};
@@ -8,8 +8,7 @@ ghost use Rattle.look.specs.Inside.Looks.{part, nameAt};
 ghost use Rattle.names.specs.Judge.{numberOf};
 ghost use Rattle.ledger.specs.Inside.Standing.{Span, Shelf, namesFrom, added};
 
-// The name kept at a place of the ledger is the one from start to end, up to the case of letters. Both are compared where they stand, from the last
-// byte to the first, as `same_word` does: this is done for each name that is looked up and each name that is kept.
+// The name kept at a place of the ledger is the one from start to end.
 fn is_same(text: &[u8], ledger: &[u64; 328], at: usize, start: usize, end: usize) -> bool
     requires { ⌜ (length (now ledger) ≡ 328) × (at + 1 < 328) ⌝ }
     requires { ⌜ Span (now text) (getD (now ledger) at 0) (getD (now ledger) (at + 1) 0) ⌝ }
@@ -18,19 +17,7 @@ fn is_same(text: &[u8], ledger: &[u64; 328], at: usize, start: usize, end: usize
 {
     let from = ledger[at] as usize;
     let to = ledger[at + 1] as usize;
-    let mut i = to - from;
-    if i != end - start {
-        return false;
-    }
-    while 0 < i {
-        i -= 1;
-        if text[from + i] != text[start + i] {
-            if lower(text[from + i]) != lower(text[start + i]) {
-                return false;
-            }
-        }
-    }
-    true
+    same_word(&text[from..to], &text[start..end])
 }
 
 // The number of the first of the names from base on that is the one from start to end; how many there are, where none is.
