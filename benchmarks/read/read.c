@@ -89,6 +89,22 @@ static void nested(void)
     end();
 }
 
+/* One list of some 20,000 names of two letters, the last of 64 that are declared: the slowest text that was found. */
+static void many_names(void)
+{
+    length = 0;
+    add("entity e is end; architecture a of e is signal aa");
+    for (int k = 1; k < 64; k++) {
+        const char name[] = {',', (char)('a' + k % 26), (char)('a' + k / 26), 0};
+        add(name);
+    }
+    add(":boolean; begin process(lc");
+    while (length < LONGEST - 40)
+        add(",lc");
+    add(") begin ");
+    end();
+}
+
 static void read_text(void)
 {
     answer = compassnail_read(text, length, table, COMPASSNAIL_TABLE_WORDS);
@@ -119,6 +135,7 @@ int main(void)
     measure("read, short names", short_names, read_text);
     measure("read, long names", long_names, read_text);
     measure("read, nested", nested, read_text);
+    measure("read, many names", many_names, read_text);
     measure("header, long names", long_names, write_header);
     return 0;
 }
