@@ -11,9 +11,9 @@ use Rattle.laws.proofs.Cases.{by}
 use Rattle.cells.specs.Inside.Moves.{Cut, Shifted, Dropped}
 
 -- a list read downwards: what holds from n on and at n - 1 holds from n - 1 on
-from-one-less :
+from_one_less :
     (P : ℕ → Type 0) (n c : ℕ) → 0 < n → P (n - 1) → ((i : ℕ) → n ≤ i → i < c → P i) → (i : ℕ) → n - 1 ≤ i → i < c → P i
-from-one-less P n c pos here all i lo hi = ⊎_elim (λ e. subst P e here) (λ l. all i (omega arith) hi) (eq-or-lt_of_le lo)
+from_one_less P n c pos here all i lo hi = ⊎_elim (λ e. subst P e here) (λ l. all i (omega arith) hi) (eq-or-lt_of_le lo)
 
 -- what is below t at the last of rising numbers is below t at each
 below_last :
@@ -32,20 +32,20 @@ pub record Cutting (cs : List ℕ) (base n t r : ℕ) (ds : List ℕ) : Type 0 w
   pub gone : (i : ℕ) → r ≤ i → i < n → get_or ds (base + i) 0 ≡ 0
   pub still : (z : ℕ) → ((i : ℕ) → r ≤ i → i < n → base + i ≡ z → ⊥) → get_or ds z 0 ≡ get_or cs z 0
 
-pub cutting-none : (cs : List ℕ) (base n t : ℕ) → length cs ≡ 1152 → Cutting cs base n t n cs
-cutting-none cs base n t long =
+pub cutting_none : (cs : List ℕ) (base n t : ℕ) → length cs ≡ 1152 → Cutting cs base n t n cs
+cutting_none cs base n t long =
     record { long = long; most = omega arith; late = λ i h g. absurd (omega arith); gone = λ i h g. absurd (omega arith); still = λ z out. refl }
 
 module _ (cs : List ℕ) (base n t r : ℕ) (ds : List ℕ) (c : Cutting cs base n t r ds) where
-  pub cutting-more : 0 < r → base + n ≤ 1152 → t ≤ get_or ds (base + (r - 1)) 0 / 2 → Cutting cs base n t (r - 1) (set ds (base + (r - 1)) 0)
-  cutting-more pos fits here =
+  pub cutting_more : 0 < r → base + n ≤ 1152 → t ≤ get_or ds (base + (r - 1)) 0 / 2 → Cutting cs base n t (r - 1) (set ds (base + (r - 1)) 0)
+  cutting_more pos fits here =
       let same : get_or ds (base + (r - 1)) 0 ≡ get_or cs (base + (r - 1)) 0 = c.still (base + (r - 1)) (λ i h g e. omega arith) in
       record {
         long = simp length-set c.long;
         most = omega (arith, c.most);
-        late = from-one-less (λ i. t ≤ get_or cs (base + i) 0 / 2) r n pos (rw same at here) c.late;
+        late = from_one_less (λ i. t ≤ get_or cs (base + i) 0 / 2) r n pos (rw same at here) c.late;
         gone =
-            from-one-less (λ i. get_or (set ds (base + (r - 1)) 0) (base + i) 0 ≡ 0) r n pos
+            from_one_less (λ i. get_or (set ds (base + (r - 1)) 0) (base + i) 0 ≡ 0) r n pos
             (get_or-set_same ds (base + (r - 1)) 0 0 (omega (arith, c.long, c.most)))
             (λ i h g. get_or-set_other ds (base + (r - 1)) (base + i) 0 0 (λ e. omega arith) ∙ c.gone i h g);
         still =
@@ -74,10 +74,10 @@ module _ (cs : List ℕ) (base n t r : ℕ) (ds : List ℕ) (c : Cutting cs base
 pub shifted_none : (cs : List ℕ) (base : ℕ) → length cs ≡ 1152 → Shifted cs base 1 cs
 shifted_none cs base h = record { long = h; moved = λ m l. absurd (omega arith); still = λ j out. refl }
 
-pub shifted-more :
+pub shifted_more :
     (cs ds : List ℕ) (base i : ℕ) → 0 < i → base + i ≤ 1152 → Shifted cs base i ds
     → Shifted cs base (i + 1) (set ds (base + i - 1) (get_or ds (base + i) 0))
-shifted-more cs ds base i pos fits sh =
+shifted_more cs ds base i pos fits sh =
     record {
       long = simp length-set sh.long;
       moved =

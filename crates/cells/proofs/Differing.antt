@@ -11,19 +11,19 @@ use Rattle.table.specs.Table.{bit}
 use Rattle.table.proofs.Tabulated.{bit-zero}
 use Rattle.cells.specs.Cells.{value_of, values}
 use Rattle.cells.specs.Inside.Changes.{Differs}
-use Rattle.cells.proofs.Columns.{value-at}
+use Rattle.cells.proofs.Columns.{value_at}
 use Rattle.cells.proofs.Taking.{differ_self}
 use Rattle.cells.proofs.Words.{bit-xor}
 
-differ-both : (a b c : Bool) → differ (differ a b) (differ b c) ≡ differ a c
-differ-both true true true = refl
-differ-both true true false = refl
-differ-both true false true = refl
-differ-both true false false = refl
-differ-both false true true = refl
-differ-both false true false = refl
-differ-both false false true = refl
-differ-both false false false = refl
+differ_both : (a b c : Bool) → differ (differ a b) (differ b c) ≡ differ a c
+differ_both true true true = refl
+differ_both true true false = refl
+differ_both true false true = refl
+differ_both true false false = refl
+differ_both false true true = refl
+differ_both false true false = refl
+differ_both false false true = refl
+differ_both false false false = refl
 
 module _ (n : ℕ) (cs : List ℕ) where
   pub differs_none : Differs n 0 cs cs
@@ -35,7 +35,7 @@ module _ (n : ℕ) (cs : List ℕ) where
     differs-still fs e =
         record {
           small = one.small;
-          tells = λ k l. one.tells k l ∙ ap (differ (value_of cs k)) (sym (value-at n ds k l) ∙ ap (λ vs. get_or vs k false) (sym e) ∙ value-at n fs k l);
+          tells = λ k l. one.tells k l ∙ ap (differ (value_of cs k)) (sym (value_at n ds k l) ∙ ap (λ vs. get_or vs k false) (sym e) ∙ value_at n fs k l);
         }
 
     pub differs_more : (w : ℕ) (fs : List ℕ) → Differs n w ds fs → Differs n (bit_xor v w) cs fs
@@ -46,5 +46,5 @@ module _ (n : ℕ) (cs : List ℕ) where
               bit-xor v w k
               ∙ ap (λ b. differ b (bit w k)) (one.tells k l)
               ∙ ap (differ (differ (value_of cs k) (value_of ds k))) (other.tells k l)
-              ∙ differ-both (value_of cs k) (value_of ds k) (value_of fs k);
+              ∙ differ_both (value_of cs k) (value_of ds k) (value_of fs k);
         }

@@ -12,14 +12,14 @@ use lib.Seq.{get_or-set_same, get_or-set_other}
 use borrow.Author.Tests.{ltb-false, eq-eqb, ne_eqb}
 use Rattle.laws.specs.Pick.{pick}
 use Rattle.laws.proofs.Cases.{split, by}
-use Rattle.rules.specs.Sizes.{mostPending}
+use Rattle.rules.specs.Sizes.{most_pending}
 use Rattle.rules.specs.Outcome.{refuses, gives}
-use Rattle.rules.specs.Pending.{Change, change, Pending, before, post, dueIn}
+use Rattle.rules.specs.Pending.{Change, change, Pending, before, post, due_in}
 use Rattle.table.specs.Table.{bit}
-use Rattle.table.proofs.Changes.{each-before, each_append}
+use Rattle.table.proofs.Changes.{each_before, each_append}
 use Rattle.cells.specs.Cells.{pendings, FitFor, Posted, Reached, Took, Due}
 use Rattle.cells.proofs.Columns.{length-pendings}
-use Rattle.cells.proofs.Words.{bit-or, bit-same, bit-other, one_below}
+use Rattle.cells.proofs.Words.{bit-or, bit_same, bit_other, one_below}
 
 -- the cells of other signals stay zero
 module _ (n k : ℕ) (cs ds : List ℕ) (l : k < n) (f : FitFor n cs) where
@@ -28,8 +28,8 @@ module _ (n k : ℕ) (cs ds : List ℕ) (l : k < n) (f : FitFor n cs) where
       record {
         few = f.few;
         fit = p.fit;
-        noValues = λ j h g. p.values j g ∙ f.noValues j h g;
-        noCounts = λ j h g. p.counts j g (λ e. omega arith) ∙ f.noCounts j h g;
+        no_values = λ j h g. p.values j g ∙ f.no_values j h g;
+        no_counts = λ j h g. p.counts j g (λ e. omega arith) ∙ f.no_counts j h g;
       }
 
   pub fit-took : (t : ℕ) (b : Bool) → Took cs k t b ds → FitFor n ds
@@ -37,23 +37,23 @@ module _ (n k : ℕ) (cs ds : List ℕ) (l : k < n) (f : FitFor n cs) where
       record {
         few = f.few;
         fit = p.fit;
-        noValues = λ j h g. p.otherValue j g (λ e. omega arith) ∙ f.noValues j h g;
-        noCounts = λ j h g. p.otherCount j g (λ e. omega arith) ∙ f.noCounts j h g;
+        no_values = λ j h g. p.other_value j g (λ e. omega arith) ∙ f.no_values j h g;
+        no_counts = λ j h g. p.other_count j g (λ e. omega arith) ∙ f.no_counts j h g;
       }
 
 -- A POST AND THE WORD
 
-due-append : (t : ℕ) (cs : List Change) (c : Change) → dueIn t (cs ++ (c ∷ [])) ≡ (dueIn t cs || eqb c.time t)
-unfolding dueIn
+due-append : (t : ℕ) (cs : List Change) (c : Change) → due_in t (cs ++ (c ∷ [])) ≡ (due_in t cs || eqb c.time t)
+unfolding due_in
 due-append t [] c = or-false (eqb c.time t)
-due-append t (d ∷ cs) c = ap (λ (b : Bool). eqb d.time t || b) (due-append t cs c) ∙ sym (or_assoc (eqb d.time t) (dueIn t cs) (eqb c.time t))
+due-append t (d ∷ cs) c = ap (λ (b : Bool). eqb d.time t || b) (due-append t cs c) ∙ sym (or_assoc (eqb d.time t) (due_in t cs) (eqb c.time t))
 
-due-before : (now t : ℕ) → now < t → (cs : List Change) → dueIn now (before t cs) ≡ dueIn now cs
-unfolding dueIn before
+due-before : (now t : ℕ) → now < t → (cs : List Change) → due_in now (before t cs) ≡ due_in now cs
+unfolding due_in before
 due-before now t h [] = refl
 due-before now t h (c ∷ cs) =
     split (ltb c.time t)
-    (λ e. rw (e, dueIn) (ap (λ (b : Bool). eqb c.time now || b) (due-before now t h cs)))
+    (λ e. rw (e, due_in) (ap (λ (b : Bool). eqb c.time now || b) (due-before now t h cs)))
     (λ e. rw (e, ne_eqb c.time now (λ q. omega (arith, ltb-false c.time t e))) (due-before now t h cs))
 
 given : {A : Type 0} (b : Bool) (x y : A) → pick b (gives x) (refuses 15) ≡ gives y → y ≡ x
@@ -66,7 +66,7 @@ module _ (n : ℕ) (cs ds : List ℕ) (k t : ℕ) (v : Bool) (p : Posted cs k t 
 
   after : pendings n ds ≡ set (pendings n cs) k (left ++ (change t v ∷ []))
   unfolding post
-  after = given (ltb (length left) mostPending) (set (pendings n cs) k (left ++ (change t v ∷ []))) (pendings n ds) (p.answer n l few)
+  after = given (ltb (length left) most_pending) (set (pendings n cs) k (left ++ (change t v ∷ []))) (pendings n ds) (p.answer n l few)
 
   here : get_or (pendings n ds) k [] ≡ left ++ (change t v ∷ [])
   here = ap (λ (q : Pending). get_or q k []) after ∙ get_or-set_same (pendings n cs) k (left ++ (change t v ∷ [])) [] (omega (arith, length-pendings n cs))
@@ -78,11 +78,11 @@ module _ (n : ℕ) (cs ds : List ℕ) (k t : ℕ) (v : Bool) (p : Posted cs k t 
     reached-after : now ≤ t → (j : ℕ) → Reached now (get_or (pendings n ds) j [])
     reached-after h j =
         by j k
-        (λ e. rw (e, here) (each_append (λ c. now ≤ c.time) left (change t v) (each-before (λ c. now ≤ c.time) t (get_or (pendings n cs) k []) (due.reached k)) h))
+        (λ e. rw (e, here) (each_append (λ c. now ≤ c.time) left (change t v) (each_before (λ c. now ≤ c.time) t (get_or (pendings n cs) k []) (due.reached k)) h))
         (λ ne. rw (there j ne) (due.reached j))
 
-    other : (j : ℕ) → (j ≡ k → ⊥) → bit word j ≡ dueIn now (get_or (pendings n ds) j [])
-    other j ne = due.tells j ∙ sym (ap (dueIn now) (there j ne))
+    other : (j : ℕ) → (j ≡ k → ⊥) → bit word j ≡ due_in now (get_or (pendings n ds) j [])
+    other j ne = due.tells j ∙ sym (ap (due_in now) (there j ne))
 
     pub due-later : now < t → Due word now (pendings n ds)
     due-later h =
@@ -94,7 +94,7 @@ module _ (n : ℕ) (cs ds : List ℕ) (k t : ℕ) (v : Bool) (p : Posted cs k t 
               (due.tells k
               ∙ sym (due-before now t h (get_or (pendings n cs) k []))
               ∙ sym (or-false _)
-              ∙ sym (ap (dueIn now) here ∙ due-append now left (change t v) ∙ ap (λ (b : Bool). dueIn now left || b) (ne_eqb t now (λ q. omega arith)))))
+              ∙ sym (ap (due_in now) here ∙ due-append now left (change t v) ∙ ap (λ (b : Bool). due_in now left || b) (ne_eqb t now (λ q. omega arith)))))
               (other j);
         }
 
@@ -107,10 +107,10 @@ module _ (n : ℕ) (cs ds : List ℕ) (k t : ℕ) (v : Bool) (p : Posted cs k t 
               bit-or word (1 * 2 ^ k) j
               ∙ by j k
               (λ e. rw e
-              (ap (λ (b : Bool). bit word k || b) (bit-same k)
+              (ap (λ (b : Bool). bit word k || b) (bit_same k)
               ∙ or-true (bit word k)
-              ∙ sym (ap (dueIn now) here ∙ due-append now left (change t v) ∙ ap (λ (b : Bool). dueIn now left || b) (eq-eqb t now (sym h)) ∙ or-true (dueIn now left))))
-              (λ ne. ap (λ (b : Bool). bit word j || b) (bit-other k j ne) ∙ or-false (bit word j) ∙ other j ne);
+              ∙ sym (ap (due_in now) here ∙ due-append now left (change t v) ∙ ap (λ (b : Bool). due_in now left || b) (eq-eqb t now (sym h)) ∙ or-true (due_in now left))))
+              (λ ne. ap (λ (b : Bool). bit word j || b) (bit_other k j ne) ∙ or-false (bit word j) ∙ other j ne);
         }
 
 -- the same where the answer is known only as a yes-or-no

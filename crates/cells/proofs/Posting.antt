@@ -14,40 +14,40 @@ use Rattle.rules.specs.Session.{Rising}
 use Rattle.table.specs.Table.{tabulate}
 use Rattle.table.proofs.Tabulated.{length-tabulate}
 use Rattle.table.proofs.Changes.{rising-before, rising-append, before-earlier}
-use Rattle.cells.specs.Cells.{truth, changeIn, count_of, pendingOf, Fit, Posted}
+use Rattle.cells.specs.Cells.{truth, change_in, count_of, pending_of, Fit, Posted}
 use Rattle.cells.specs.Inside.Moves.{Cut}
-use Rattle.cells.proofs.Tabulating.{tabulate-more}
-use Rattle.cells.proofs.Waiting.{before-tabulate, rising-at}
-use Rattle.cells.proofs.Columns.{same-changes, ext-cells, pending-at, Only, count-other, pendings-set, fit-only}
+use Rattle.cells.proofs.Tabulating.{tabulate_more}
+use Rattle.cells.proofs.Waiting.{before-tabulate, rising_at}
+use Rattle.cells.proofs.Columns.{same_changes, ext_cells, pending_at, Only, count_other, pendings-set, fit-only}
 
-pub rising-cells : (cs : List ℕ) (base n : ℕ) → Rising (tabulate (changeIn cs) base n) → (i j : ℕ) → i < j → j < n
+pub rising-cells : (cs : List ℕ) (base n : ℕ) → Rising (tabulate (change_in cs) base n) → (i j : ℕ) → i < j → j < n
     → get_or cs (base + i) 0 / 2 < get_or cs (base + j) 0 / 2
-unfolding changeIn
-rising-cells cs base n r i j h g = rising-at (changeIn cs) base n i j r h g
+unfolding change_in
+rising-cells cs base n r i j h g = rising_at (change_in cs) base n i j r h g
 
-cell-of : (cs : List ℕ) (z t b : ℕ) → b ≤ 1 → get_or cs z 0 ≡ t * 2 + b → changeIn cs z ≡ change t (truth b)
-unfolding changeIn
-cell-of cs z t b h e =
+cell_of : (cs : List ℕ) (z t b : ℕ) → b ≤ 1 → get_or cs z 0 ≡ t * 2 + b → change_in cs z ≡ change t (truth b)
+unfolding change_in
+cell_of cs z t b h e =
     let p : (t * 2 + b) / 2 ≡ t = omega arith in
     let q : (t * 2 + b) % 2 ≡ b = omega arith in
     rw (e, p, q)
 
 module _ (cs : List ℕ) (k t m : ℕ) (es : List ℕ) (fit : Fit cs) (in64 : k < 64) (c : Cut cs (128 + k * 16) (count_of cs k) t m es) where
-  left : before t (pendingOf cs k) ≡ tabulate (changeIn cs) (128 + k * 16) m
-  unfolding changeIn
-  left = before-tabulate (changeIn cs) t (128 + k * 16) (count_of cs k) m c.most c.early c.late
+  left : before t (pending_of cs k) ≡ tabulate (change_in cs) (128 + k * 16) m
+  unfolding change_in
+  left = before-tabulate (change_in cs) t (128 + k * 16) (count_of cs k) m c.most c.early c.late
 
-  left-length : length (before t (pendingOf cs k)) ≡ m
-  left-length = ap length left ∙ length-tabulate (changeIn cs) (128 + k * 16) m
+  left-length : length (before t (pending_of cs k)) ≡ m
+  left-length = ap length left ∙ length-tabulate (change_in cs) (128 + k * 16) m
 
   -- nothing was cut
   pub post-refused : (v : Bool) → 16 ≤ m → Posted cs k t v false es
   unfolding post
   post-refused v full =
       let n : count_of cs k ≤ m = omega (arith, fit.few k in64) in
-      let e : es ≡ cs = ext-cells es cs c.long fit.long (λ z. c.still z (λ i h g q. omega arith)) in
+      let e : es ≡ cs = ext_cells es cs c.long fit.long (λ z. c.still z (λ i h g q. omega arith)) in
       record {
-        answer = λ n l h. rw (pending-at n cs k l, left-length, le-ltb m 16 full);
+        answer = λ n l h. rw (pending_at n cs k l, left-length, le-ltb m 16 full);
         values = λ j l. rw e;
         counts = λ j l ne. rw e;
         fit = rw e fit;
@@ -66,19 +66,19 @@ module _ (cs : List ℕ) (k t m : ℕ) (es : List ℕ) (fit : Fit cs) (in64 : k 
         get_or-set_other (set es (128 + k * 16 + m) (t * 2 + b)) (64 + k) z (m + 1) 0 p
         ∙ get_or-set_other es (128 + k * 16 + m) z (t * 2 + b) 0 q
 
-    last-here : get_or after (128 + k * 16 + m) 0 ≡ t * 2 + b
-    last-here =
+    last_here : get_or after (128 + k * 16 + m) 0 ≡ t * 2 + b
+    last_here =
         get_or-set_other (set es (128 + k * 16 + m) (t * 2 + b)) (64 + k) (128 + k * 16 + m) (m + 1) 0 (λ e. omega arith)
         ∙ get_or-set_same es (128 + k * 16 + m) (t * 2 + b) 0 (omega (arith, c.long))
 
-    here : pendingOf after k ≡ before t (pendingOf cs k) ++ (change t (truth b) ∷ [])
+    here : pending_of after k ≡ before t (pending_of cs k) ++ (change t (truth b) ∷ [])
     here =
-        ap (λ (n : ℕ). tabulate (changeIn after) (128 + k * 16) n) (count-here ∙ add-one m)
-        ∙ tabulate-more (changeIn after) (128 + k * 16) m
+        ap (λ (n : ℕ). tabulate (change_in after) (128 + k * 16) n) (count-here ∙ add-one m)
+        ∙ tabulate_more (change_in after) (128 + k * 16) m
         ∙ rw (
           left,
-          cell-of after (128 + k * 16 + m) t b bit last-here,
-          same-changes cs after (128 + k * 16) (128 + k * 16) m
+          cell_of after (128 + k * 16 + m) t b bit last_here,
+          same_changes cs after (128 + k * 16) (128 + k * 16) m
               (λ i l.
               far (128 + k * 16 + i) (λ e. omega arith) (λ e. omega arith)
               ∙ c.still (128 + k * 16 + i) (λ u h g e. omega arith)),
@@ -100,14 +100,14 @@ module _ (cs : List ℕ) (k t m : ℕ) (es : List ℕ) (fit : Fit cs) (in64 : k 
     unfolding post
     post-done =
         record {
-          answer = λ n l h. rw (pending-at n cs k l, left-length, lt-ltb m 16 room, pendings-set cs after k fit in64 only n l h, here);
+          answer = λ n l h. rw (pending_at n cs k l, left-length, lt-ltb m 16 room, pendings-set cs after k fit in64 only n l h, here);
           values = λ j l. far j (λ e. omega arith) (λ e. omega arith) ∙ c.still j (λ i h g e. omega arith);
-          counts = count-other cs after k fit in64 only;
+          counts = count_other cs after k fit in64 only;
           fit =
               fit-only cs after k fit in64 only (simp length-set c.long)
               (rw value-here (fit.bits k in64))
               (rw count-here (omega arith))
-              (rw here (rising-append (before t (pendingOf cs k)) (change t (truth b)) (rising-before t (pendingOf cs k) (fit.rising k in64)) (before-earlier t (pendingOf cs k))))
+              (rw here (rising-append (before t (pending_of cs k)) (change t (truth b)) (rising-before t (pending_of cs k) (fit.rising k in64)) (before-earlier t (pending_of cs k))))
               (λ i p g.
               far (128 + k * 16 + i) (λ e. omega arith) (λ e. omega (arith, count-here))
               ∙ unused-after i (omega (arith, count-here)) g (ltb i (count_of cs k)) refl);

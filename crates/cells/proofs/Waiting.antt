@@ -5,7 +5,7 @@ use mathlib.Core.List.{List, [], ◌∷◌}
 use mathlib.Core.Bool.{Bool, false}
 use native.Mathlib.Omega.{arith}
 use borrow.Author.Tests.{lt-ltb, le-ltb, ne_eqb}
-use Rattle.rules.specs.Pending.{Change, change, before, taken, kept, dueIn}
+use Rattle.rules.specs.Pending.{Change, change, before, taken, kept, due_in}
 use Rattle.rules.specs.Session.{Each, Rising}
 use Rattle.table.specs.Table.{tabulate}
 use Rattle.table.proofs.Changes.{each_more}
@@ -34,16 +34,16 @@ module _ (f : ℕ → Change) where
   each_at P i (suc n) (suc k) h l = subst (λ z. P (f z)) (omega arith) (each_at P (suc i) n k h.1 (omega arith))
 
   -- the times of rising changes rise
-  pub rising-at : (i n j k : ℕ) → Rising (tabulate f i n) → j < k → k < n → (f (i + j)).time < (f (i + k)).time
+  pub rising_at : (i n j k : ℕ) → Rising (tabulate f i n) → j < k → k < n → (f (i + j)).time < (f (i + k)).time
   unfolding Rising tabulate
-  rising-at i zero j k h l m = absurd (omega arith)
-  rising-at i (suc n) j zero h l m = absurd (omega arith)
-  rising-at i (suc n) zero (suc k) h l m =
+  rising_at i zero j k h l m = absurd (omega arith)
+  rising_at i (suc n) j zero h l m = absurd (omega arith)
+  rising_at i (suc n) zero (suc k) h l m =
       let e : i + 0 ≡ i = omega arith in
       rw e (subst (λ z. (f i).time < (f z).time) (omega arith) (each_at (λ d. (f i).time < d.time) (suc i) n k h.0 (omega arith)))
-  rising-at i (suc n) (suc j) (suc k) h l m =
+  rising_at i (suc n) (suc j) (suc k) h l m =
       subst (λ z. (f z).time < (f (i + suc k)).time) (omega arith)
-      (subst (λ z. (f (suc i + j)).time < (f z).time) (omega arith) (rising-at (suc i) n j k h.1 (omega arith) (omega arith)))
+      (subst (λ z. (f (suc i + j)).time < (f z).time) (omega arith) (rising_at (suc i) n j k h.1 (omega arith) (omega arith)))
 
 -- where all changes come later than t, none is taken at t
 module _ (t : ℕ) where
@@ -57,8 +57,8 @@ module _ (t : ℕ) where
   taken-later v [] h = refl
   taken-later v (c ∷ cs) h = rw (ne_eqb c.time t (λ e. omega (arith, h.0))) (taken-later v cs h.1)
 
-  pub due-later : (cs : List Change) → Each (λ c. t < c.time) cs → dueIn t cs ≡ false
-  unfolding Each dueIn
+  pub due-later : (cs : List Change) → Each (λ c. t < c.time) cs → due_in t cs ≡ false
+  unfolding Each due_in
   due-later [] h = refl
   due-later (c ∷ cs) h = rw (ne_eqb c.time t (λ e. omega (arith, h.0))) (due-later cs h.1)
 
@@ -67,9 +67,9 @@ pub later_first : (t : ℕ) (c : Change) (cs : List Change) → Rising (c ∷ cs
 unfolding Rising
 later_first t c cs r h = each_more (λ d. c.time < d.time) (λ d. t < d.time) (λ d g. omega arith) cs r.0
 
-pub later-all : (t : ℕ) (c : Change) (cs : List Change) → Rising (c ∷ cs) → t < c.time → Each (λ d. t < d.time) (c ∷ cs)
+pub later_all : (t : ℕ) (c : Change) (cs : List Change) → Rising (c ∷ cs) → t < c.time → Each (λ d. t < d.time) (c ∷ cs)
 unfolding Each
-later-all t c cs r h = (h, later_first t c cs r (omega arith))
+later_all t c cs r h = (h, later_first t c cs r (omega arith))
 
 pub rising-tail : (c : Change) (cs : List Change) → Rising (c ∷ cs) → Rising cs
 unfolding Rising

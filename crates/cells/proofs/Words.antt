@@ -14,22 +14,22 @@ use Rattle.table.specs.Table.{bit}
 use Rattle.table.proofs.Tabulated.{bit-zero}
 use Rattle.cells.specs.Cells.{truth}
 
-max-bit : (z a b : ℕ) → a ≤ 1 → b ≤ 1 → ((z * 2 + max a b) / 2 ≡ z) × (truth ((z * 2 + max a b) % 2) ≡ (truth a || truth b))
-max-bit z zero zero h g = (omega arith, let e : (z * 2 + 0) % 2 ≡ 0 = omega arith in rw e)
-max-bit z zero (suc zero) h g = (omega arith, let e : (z * 2 + 1) % 2 ≡ 1 = omega arith in rw e)
-max-bit z (suc zero) zero h g = (omega arith, let e : (z * 2 + 1) % 2 ≡ 1 = omega arith in rw e)
-max-bit z (suc zero) (suc zero) h g = (omega arith, let e : (z * 2 + 1) % 2 ≡ 1 = omega arith in rw e)
-max-bit z (suc (suc a)) b h g = absurd (omega arith)
-max-bit z zero (suc (suc b)) h g = absurd (omega arith)
-max-bit z (suc zero) (suc (suc b)) h g = absurd (omega arith)
+max_bit : (z a b : ℕ) → a ≤ 1 → b ≤ 1 → ((z * 2 + max a b) / 2 ≡ z) × (truth ((z * 2 + max a b) % 2) ≡ (truth a || truth b))
+max_bit z zero zero h g = (omega arith, let e : (z * 2 + 0) % 2 ≡ 0 = omega arith in rw e)
+max_bit z zero (suc zero) h g = (omega arith, let e : (z * 2 + 1) % 2 ≡ 1 = omega arith in rw e)
+max_bit z (suc zero) zero h g = (omega arith, let e : (z * 2 + 1) % 2 ≡ 1 = omega arith in rw e)
+max_bit z (suc zero) (suc zero) h g = (omega arith, let e : (z * 2 + 1) % 2 ≡ 1 = omega arith in rw e)
+max_bit z (suc (suc a)) b h g = absurd (omega arith)
+max_bit z zero (suc (suc b)) h g = absurd (omega arith)
+max_bit z (suc zero) (suc (suc b)) h g = absurd (omega arith)
 
 pub bit-or : (a b k : ℕ) → bit (bit_or a b) k ≡ (bit a k || bit b k)
 unfolding bit
 bit-or a b zero =
-    ap (λ (n : ℕ). truth (n % 2)) (or_step a b) ∙ (max-bit (bit_or (a / 2) (b / 2)) (a % 2) (b % 2) (omega arith) (omega arith)).1
+    ap (λ (n : ℕ). truth (n % 2)) (or_step a b) ∙ (max_bit (bit_or (a / 2) (b / 2)) (a % 2) (b % 2) (omega arith) (omega arith)).1
 bit-or a b (suc k) =
     ap (λ (n : ℕ). bit (n / 2) k) (or_step a b)
-    ∙ ap (λ (n : ℕ). bit n k) (max-bit (bit_or (a / 2) (b / 2)) (a % 2) (b % 2) (omega arith) (omega arith)).0
+    ∙ ap (λ (n : ℕ). bit n k) (max_bit (bit_or (a / 2) (b / 2)) (a % 2) (b % 2) (omega arith) (omega arith)).0
     ∙ bit-or (a / 2) (b / 2) k
 
 -- where two words differ
@@ -52,23 +52,23 @@ bit-xor a b (suc k) =
     ∙ bit-xor (a / 2) (b / 2) k
 
 -- the word with bit k alone
-pub bit-same : (k : ℕ) → bit (1 * 2 ^ k) k ≡ true
+pub bit_same : (k : ℕ) → bit (1 * 2 ^ k) k ≡ true
 unfolding bit
-bit-same zero = refl
-bit-same (suc k) = ap (λ (n : ℕ). bit n k) (shifted_half 1 k) ∙ bit-same k
+bit_same zero = refl
+bit_same (suc k) = ap (λ (n : ℕ). bit n k) (shifted_half 1 k) ∙ bit_same k
 
-pub bit-other : (a k : ℕ) → (k ≡ a → ⊥) → bit (1 * 2 ^ a) k ≡ false
+pub bit_other : (a k : ℕ) → (k ≡ a → ⊥) → bit (1 * 2 ^ a) k ≡ false
 unfolding bit
-bit-other zero zero ne = absurd (ne refl)
-bit-other zero (suc k) ne = bit-zero k
-bit-other (suc a) zero ne = ap truth (shifted_even 1 a)
-bit-other (suc a) (suc k) ne = ap (λ (n : ℕ). bit n k) (shifted_half 1 a) ∙ bit-other a k (λ e. ne (ap suc e))
+bit_other zero zero ne = absurd (ne refl)
+bit_other zero (suc k) ne = bit-zero k
+bit_other (suc a) zero ne = ap truth (shifted_even 1 a)
+bit_other (suc a) (suc k) ne = ap (λ (n : ℕ). bit n k) (shifted_half 1 a) ∙ bit_other a k (λ e. ne (ap suc e))
 
 pub one_below : (k n : ℕ) → k < n → 1 * 2 ^ k < 2 ^ n
 one_below k n l = let e : 1 * 2 ^ k ≡ 2 ^ k = omega arith in rw e (pow-lt {i = k} {j = n} l)
 
-pub one-fits : (k : ℕ) → k < 64 → 1 * 2 ^ k % 2 ^ 64 ≡ 1 * 2 ^ k
-one-fits k l = mod-eq_of_lt (one_below k 64 l)
+pub one_fits : (k : ℕ) → k < 64 → 1 * 2 ^ k % 2 ^ 64 ≡ 1 * 2 ^ k
+one_fits k l = mod-eq_of_lt (one_below k 64 l)
 
 -- a word has no bit above its size
 pub bit-above : (n w k : ℕ) → w < 2 ^ n → n ≤ k → bit w k ≡ false
@@ -83,19 +83,19 @@ half m z =
     let e : 2 * 2 ^ z ≡ 2 ^ suc z = omega arith in
     sym (div-div-eq-div-mul m 2 (2 ^ z) ∙ ap (λ (x : ℕ). m / x) e)
 
-bit-shift : (z m j : ℕ) → bit (m / 2 ^ z) j ≡ bit m (z + j)
+bit_shift : (z m j : ℕ) → bit (m / 2 ^ z) j ≡ bit m (z + j)
 unfolding bit
-bit-shift zero m j =
+bit_shift zero m j =
     let h : m / 2 ^ 0 ≡ m = omega arith in
     let g : 0 + j ≡ j = omega arith in
     rw (h, g)
-bit-shift (suc z) m j =
+bit_shift (suc z) m j =
     let g : suc z + j ≡ suc (z + j) = omega arith in
-    rw (half m z, g) (bit-shift z (m / 2) j)
+    rw (half m z, g) (bit_shift z (m / 2) j)
 
-bit-next : (m j : ℕ) → bit (m / 2) j ≡ bit m (suc j)
+bit_next : (m j : ℕ) → bit (m / 2) j ≡ bit m (suc j)
 unfolding bit
-bit-next m j = refl
+bit_next m j = refl
 
 -- THE LOWEST BIT
 
@@ -123,7 +123,7 @@ lowest-up c m z e l =
     let g : suc c - suc (suc z) ≡ c - suc z = omega arith in
     record {
       inside = omega (arith, l.inside);
-      set = sym (bit-next m z) ∙ l.set;
+      set = sym (bit_next m z) ∙ l.set;
       unset = low-unset m z e l.unset;
       less = rw (half m z, g) l.less;
     }
@@ -147,8 +147,8 @@ pub record Walking (word limit m k : ℕ) : Type 0 where
   pub small : m < 2 ^ (limit - k)
   pub bits : (j : ℕ) → bit m j ≡ bit word (k + j)
 
-pub walking-first : (word limit : ℕ) → word < 2 ^ limit → Walking word limit word 0
-walking-first word limit l =
+pub walking_first : (word limit : ℕ) → word < 2 ^ limit → Walking word limit word 0
+walking_first word limit l =
     let e : limit - 0 ≡ limit = omega arith in
     record { low = omega arith; small = rw e l; bits = λ j. ap (bit word) (omega arith) }
 
@@ -160,13 +160,13 @@ pub record Stepping (word limit m k z : ℕ) : Type 0 where
   pub next : Walking word limit (m / 2 ^ z / 2) (k + z + 1)
 
 module _ (word limit m k : ℕ) (w : Walking word limit m k) where
-  pub walking-last : m ≡ 0 → (j : ℕ) → k ≤ j → bit word j ≡ false
-  walking-last e j l =
+  pub walking_last : m ≡ 0 → (j : ℕ) → k ≤ j → bit word j ≡ false
+  walking_last e j l =
       let q : k + (j - k) ≡ j = omega arith in
       sym (ap (bit word) q) ∙ sym (w.bits (j - k)) ∙ ap (λ x. bit x (j - k)) e ∙ bit-zero (j - k)
 
-  pub walking-next : limit ≤ 64 → 0 < m → Stepping word limit m k (count_trailing_zeros 64 m)
-  walking-next few some =
+  pub walking_next : limit ≤ 64 → 0 < m → Stepping word limit m k (count_trailing_zeros 64 m)
+  walking_next few some =
       let z = count_trailing_zeros 64 m in
       let l = lowest (limit - k) 64 m (omega arith) some w.small in
       let q : limit - k - suc (count_trailing_zeros 64 m) ≡ limit - (k + count_trailing_zeros 64 m + 1) = omega arith in
@@ -179,8 +179,8 @@ module _ (word limit m k : ℕ) (w : Walking word limit m k) where
               low = omega (arith, l.inside, w.low);
               small = rw q at l.less;
               bits = λ j.
-                  bit-next (m / 2 ^ count_trailing_zeros 64 m) j
-                  ∙ bit-shift (count_trailing_zeros 64 m) m (suc j)
+                  bit_next (m / 2 ^ count_trailing_zeros 64 m) j
+                  ∙ bit_shift (count_trailing_zeros 64 m) m (suc j)
                   ∙ w.bits (count_trailing_zeros 64 m + suc j)
                   ∙ ap (bit word) (omega arith);
             };

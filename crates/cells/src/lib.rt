@@ -1,6 +1,6 @@
 // The cells of a session: posts, takes, and what comes next. Everything that a run changes stands in one array.
 ghost use Rattle.std.specs.Prelude.{◌≡◌, true, false, ℕ, ◌+◌, ◌*◌, ◌/◌, ◌^◌, ◌≤◌, ◌<◌, length, get_or};
-ghost use Rattle.cells.specs.Cells.{truth, pendingOf, pendings, Fit, Posted, Reached, Took, ComesNext};
+ghost use Rattle.cells.specs.Cells.{truth, pending_of, pendings, Fit, Posted, Reached, Took, ComesNext};
 ghost use Rattle.cells.specs.Inside.Moves.{Cut, Shifted, Dropped, Nearer, Seen};
 
 // Of the count changes from base on, sets those at t or later to zero and says how many are left.
@@ -82,7 +82,7 @@ fn drop_first(cells: &mut [u64; 1152], base: usize, count: usize)
 pub fn take(cells: &mut [u64; 1152], signal: usize, time: u64) -> bool
     requires fit { Fit cells.old }
     requires signal_bound { signal < 64 }
-    requires reached { Reached time (pendingOf cells.old signal) }
+    requires reached { Reached time (pending_of cells.old signal) }
     ensures { Took cells.old signal time result cells.new }
 {
     let top = 64 + signal;

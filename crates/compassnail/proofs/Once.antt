@@ -3,18 +3,18 @@ use Prim.Native.Nat.{ℕ}
 use mathlib.Core.Path.{◌≡◌, refl, ap}
 use mathlib.Core.List.{List}
 use native.Mathlib.Omega.{arith}
-use Rattle.run.proofs.Once.{one-start, one-advance}
+use Rattle.run.proofs.Once.{one_start, one_advance}
 use Rattle.reader.proofs.OneTable as reader
-use Rattle.heading.proofs.OneOutcome.{one-outcome}
-use Rattle.compassnail.specs.Codes.{tableCode, ReadsInC, reads, headerCode, HeadsInC, heads, code_of, reportAfter, StartsInC, AdvancesInC}
+use Rattle.heading.proofs.OneOutcome.{one_outcome}
+use Rattle.compassnail.specs.Codes.{table_code, ReadsInC, reads, header_code, HeadsInC, heads, code_of, report_after, StartsInC, AdvancesInC}
 
 pub read-once : (text table : List ℕ) (r s : ℕ) (left other : List ℕ) → ReadsInC text table r left → ReadsInC text table s other → (r ≡ s) × (left ≡ other)
 read-once text table r s left other (reads a x) (reads b y) =
-    let o = reader.one-outcome text table a b left other x y in (ap tableCode o.0, o.1)
+    let o = reader.one_outcome text table a b left other x y in (ap table_code o.0, o.1)
 
 pub header-once : (text out : List ℕ) (r s : ℕ) (left other : List ℕ) → HeadsInC text out r left → HeadsInC text out s other → (r ≡ s) × (left ≡ other)
 header-once text out r s left other (heads a x) (heads b y) =
-    let o = one-outcome text out a b left other x y in (ap headerCode o.0, o.1)
+    let o = one_outcome text out a b left other x y in (ap header_code o.0, o.1)
 
 -- the number, the session, the bytes and the report
 abbrev Same : (r s : ℕ) (session session' out out' report report' : List ℕ) → Type 0
@@ -27,7 +27,7 @@ module _ (table session out report : List ℕ) where
   start-once r s us vs cs ds ps qs (StartsInC.short h) (StartsInC.starts b m y) = absurd (omega arith)
   start-once r s us vs cs ds ps qs (StartsInC.starts a l x) (StartsInC.short h) = absurd (omega arith)
   start-once r s us vs cs ds ps qs (StartsInC.starts a l x) (StartsInC.starts b m y) =
-      let o = one-start table session out a b us vs cs ds x y in (ap code_of o.answer, o.session, o.bytes, ap (λ q. reportAfter q report) o.answer)
+      let o = one_start table session out a b us vs cs ds x y in (ap code_of o.answer, o.session, o.bytes, ap (λ q. report_after q report) o.answer)
 
   pub advance-once : (stop r s : ℕ) (us vs cs ds ps qs : List ℕ) → AdvancesInC table session stop out report r us cs ps
       → AdvancesInC table session stop out report s vs ds qs → Same r s us vs cs ds ps qs
@@ -35,4 +35,4 @@ module _ (table session out report : List ℕ) where
   advance-once stop r s us vs cs ds ps qs (AdvancesInC.short h) (AdvancesInC.advances b m y) = absurd (omega arith)
   advance-once stop r s us vs cs ds ps qs (AdvancesInC.advances a l x) (AdvancesInC.short h) = absurd (omega arith)
   advance-once stop r s us vs cs ds ps qs (AdvancesInC.advances a l x) (AdvancesInC.advances b m y) =
-      let o = one-advance table session out stop a b us vs cs ds x y in (ap code_of o.answer, o.session, o.bytes, ap (λ q. reportAfter q report) o.answer)
+      let o = one_advance table session out stop a b us vs cs ds x y in (ap code_of o.answer, o.session, o.bytes, ap (λ q. report_after q report) o.answer)

@@ -16,25 +16,25 @@ use Rattle.compassnail.specs.Codes.{ReadsInC, reads, HeadsInC, heads}
 
 -- A TABLE
 
-unread-small : {text table : List ℕ} {number place : ℕ} → tabled.RefusedWith text table number place → (number ≤ 11) × (place ≤ 60000)
-unread-small (tabled.RefusedWith.short h) = (omega arith, omega arith)
-unread-small {text} (tabled.RefusedWith.turned h g) = (omega (arith, (refused-number text g).1), refused-early text g)
+unread_small : {text table : List ℕ} {number place : ℕ} → tabled.RefusedWith text table number place → (number ≤ 11) × (place ≤ 60000)
+unread_small (tabled.RefusedWith.short h) = (omega arith, omega arith)
+unread_small {text} (tabled.RefusedWith.turned h g) = (omega (arith, (refused-number text g).1), refused-early text g)
 
 module _ (text table after : List ℕ) (a : Tabled) (h : Tables text table a after) where
-  pub unread-fits : {number place : ℕ} → a ≡ tableRefused number place → (number ≤ 11) × (place ≤ 60000)
-  unread-fits e = unread-small (subst (λ b. Tables text table b after) e h).0
+  pub unread_fits : {number place : ℕ} → a ≡ tableRefused number place → (number ≤ 11) × (place ≤ 60000)
+  unread_fits e = unread_small (subst (λ b. Tables text table b after) e h).0
 
-  pub read-in-c : a ≡ tableWritten → ReadsInC text table 0 after
-  read-in-c e = reads tableWritten (subst (λ b. Tables text table b after) e h)
+  pub read_in_c : a ≡ tableWritten → ReadsInC text table 0 after
+  read_in_c e = reads tableWritten (subst (λ b. Tables text table b after) e h)
 
-  pub unread-in-c : {number place r : ℕ} → a ≡ tableRefused number place → r ≡ number + 256 * place → ReadsInC text table r after
-  unread-in-c e n = rw n (reads (tableRefused _ _) (subst (λ b. Tables text table b after) e h))
+  pub unread_in_c : {number place r : ℕ} → a ≡ tableRefused number place → r ≡ number + 256 * place → ReadsInC text table r after
+  unread_in_c e n = rw n (reads (tableRefused _ _) (subst (λ b. Tables text table b after) e h))
 
 -- A HEADER
 
 module _ (text out after : List ℕ) (a : Headed) (h : Heads text out a after) where
-  pub header-in-c : {bytes : ℕ} → a ≡ Written bytes → HeadsInC text out (256 * bytes) after
-  header-in-c e = heads (Written _) (subst (λ b. Heads text out b after) e h)
+  pub header_in_c : {bytes : ℕ} → a ≡ Written bytes → HeadsInC text out (256 * bytes) after
+  header_in_c e = heads (Written _) (subst (λ b. Heads text out b after) e h)
 
-  pub refusal-in-c : {number place r : ℕ} → a ≡ Refused number place → r ≡ number + 256 * place → HeadsInC text out r after
-  refusal-in-c e n = rw n (heads (Refused _ _) (subst (λ b. Heads text out b after) e h))
+  pub refusal_in_c : {number place r : ℕ} → a ≡ Refused number place → r ≡ number + 256 * place → HeadsInC text out r after
+  refusal_in_c e n = rw n (heads (Refused _ _) (subst (λ b. Heads text out b after) e h))

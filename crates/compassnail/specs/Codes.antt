@@ -14,21 +14,21 @@ use Rattle.heading.specs.Headed.{Heads}
 
 -- A TEXT'S TABLE
 
-abbrev pub tableCode : Tabled → ℕ
-tableCode tableWritten = 0
-tableCode (tableRefused number place) = number + 256 * place
+abbrev pub table_code : Tabled → ℕ
+table_code tableWritten = 0
+table_code (tableRefused number place) = number + 256 * place
 
 pub data ReadsInC (text table : List ℕ) : ℕ → List ℕ → Type 0 where
-  reads : {tableLeft : List ℕ} (a : Tabled) → Tables text table a tableLeft → ReadsInC text table (tableCode a) tableLeft
+  reads : {tableLeft : List ℕ} (a : Tabled) → Tables text table a tableLeft → ReadsInC text table (table_code a) tableLeft
 
 -- A TEXT'S HEADER
 
-abbrev pub headerCode : Headed → ℕ
-headerCode (headerWritten bytes) = 256 * bytes
-headerCode (headerRefused number place) = number + 256 * place
+abbrev pub header_code : Headed → ℕ
+header_code (headerWritten bytes) = 256 * bytes
+header_code (headerRefused number place) = number + 256 * place
 
 pub data HeadsInC (text out : List ℕ) : ℕ → List ℕ → Type 0 where
-  heads : {outLeft : List ℕ} (a : Headed) → Heads text out a outLeft → HeadsInC text out (headerCode a) outLeft
+  heads : {out_left : List ℕ} (a : Headed) → Heads text out a out_left → HeadsInC text out (header_code a) out_left
 
 -- A TABLE'S RUN
 
@@ -39,25 +39,25 @@ code_of StopReached = 255
 code_of (Moves bytes time cycles steps) = 256 * bytes
 
 -- time, cycles and steps, where the call moved; what stands behind them stays
-abbrev pub reportAfter : Answer → List ℕ → List ℕ
-reportAfter (Refused number) report = report
-reportAfter Quiet report = report
-reportAfter StopReached report = report
-reportAfter (Moves bytes time cycles steps) report = sets report 0 (time ∷ cycles ∷ steps ∷ [])
+abbrev pub report_after : Answer → List ℕ → List ℕ
+report_after (Refused number) report = report
+report_after Quiet report = report
+report_after StopReached report = report
+report_after (Moves bytes time cycles steps) report = sets report 0 (time ∷ cycles ∷ steps ∷ [])
 
-abbrev pub reportWords : ℕ
-reportWords = 3
+abbrev pub report_words : ℕ
+report_words = 3
 
 -- a start in C: refused 11 where the report is too short too, else the start's answer with its number
 pub data StartsInC (table session out report : List ℕ) : ℕ → List ℕ → List ℕ → List ℕ → Type 0 where
-  short : length report < reportWords → StartsInC table session out report 11 session out report
-  starts : {sessionLeft outLeft : List ℕ} (a : Answer) → reportWords ≤ length report → Starts table session out a sessionLeft outLeft
-      → StartsInC table session out report (code_of a) sessionLeft outLeft (reportAfter a report)
+  short : length report < report_words → StartsInC table session out report 11 session out report
+  starts : {session_left out_left : List ℕ} (a : Answer) → report_words ≤ length report → Starts table session out a session_left out_left
+      → StartsInC table session out report (code_of a) session_left out_left (report_after a report)
 
 pub data AdvancesInC (table session : List ℕ) (stop : ℕ) (out report : List ℕ) : ℕ → List ℕ → List ℕ → List ℕ → Type 0 where
-  short : length report < reportWords → AdvancesInC table session stop out report 11 session out report
-  advances : {sessionLeft outLeft : List ℕ} (a : Answer) → reportWords ≤ length report → Advances table session out stop a sessionLeft outLeft
-      → AdvancesInC table session stop out report (code_of a) sessionLeft outLeft (reportAfter a report)
+  short : length report < report_words → AdvancesInC table session stop out report 11 session out report
+  advances : {session_left out_left : List ℕ} (a : Answer) → report_words ≤ length report → Advances table session out stop a session_left out_left
+      → AdvancesInC table session stop out report (code_of a) session_left out_left (report_after a report)
 
 -- no more bytes than a buffer has
 abbrev pub Small : Answer → Type 0
@@ -66,14 +66,14 @@ Small Quiet = Unit {0}
 Small StopReached = Unit {0}
 Small (Moves bytes time cycles steps) = bytes ≤ 4096
 
-header-of-a : headerCode (headerWritten 122) ≡ 31232
-header-of-a = refl
+header_of_a : header_code (headerWritten 122) ≡ 31232
+header_of_a = refl
 
-third-at-20 : headerCode (headerRefused 3 20) ≡ 5123
-third-at-20 = refl
+third_at_20 : header_code (headerRefused 3 20) ≡ 5123
+third_at_20 = refl
 
-moved-17 : code_of (Moves 17 0 1 6) ≡ 4352
-moved-17 = refl
+moved_17 : code_of (Moves 17 0 1 6) ≡ 4352
+moved_17 = refl
 
-report-of-17 : reportAfter (Moves 17 0 1 6) (9 ∷ 9 ∷ 9 ∷ 9 ∷ []) ≡ 0 ∷ 1 ∷ 6 ∷ 9 ∷ []
-report-of-17 = refl
+report_of_17 : report_after (Moves 17 0 1 6) (9 ∷ 9 ∷ 9 ∷ 9 ∷ []) ≡ 0 ∷ 1 ∷ 6 ∷ 9 ∷ []
+report_of_17 = refl

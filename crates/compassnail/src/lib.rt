@@ -1,6 +1,6 @@
 // The C library: plain functions on bytes, 64-bit words and numbers, thin over the proved ones. include/compassnail.h says the same for C.
 ghost use Rattle.std.specs.Prelude.{◌≡◌, ◌+◌, ◌*◌, ◌≤◌, length};
-ghost use Rattle.compassnail.specs.Codes.{ReadsInC, HeadsInC, code_of, reportAfter, Small, StartsInC, AdvancesInC};
+ghost use Rattle.compassnail.specs.Codes.{ReadsInC, HeadsInC, code_of, report_after, Small, StartsInC, AdvancesInC};
 
 use heading::Headed;
 use reader::Tabled;
@@ -42,7 +42,7 @@ fn told(answer: Answer, report: &mut [u64]) -> u64
     requires small { Small answer }
     requires in_bounds { 3 ≤ length report.old }
     ensures value { result ≡ code_of answer }
-    ensures report_after { report.new ≡ reportAfter answer report.old }
+    ensures report_after { report.new ≡ report_after answer report.old }
 {
     match answer {
         Answer::Refused(number) => number,

@@ -3,10 +3,10 @@
 use Prim.Native.Nat.{ℕ}
 use mathlib.Core.List.{List}
 use Rattle.syntax.specs.Tree.{Design}
-use Rattle.names.specs.CircuitOf.{circuitOf}
+use Rattle.names.specs.CircuitOf.{circuit_of}
 use Rattle.names.specs.Text.{accepts, Gets}
 use Rattle.names.proofs.Answer.{accepted-sized}
-use Rattle.table.proofs.Demand3.{SameCalls, demand-3}
+use Rattle.table.proofs.Demand3.{SameCalls, demand_3}
 
-pub accepted-same-calls : (text : List ℕ) (d : Design) → Gets text (accepts d) → SameCalls (circuitOf d)
-accepted-same-calls text d g = demand-3 (circuitOf d) (accepted-sized text d g)
+pub accepted_same_calls : (text : List ℕ) (d : Design) → Gets text (accepts d) → SameCalls (circuit_of d)
+accepted_same_calls text d g = demand_3 (circuit_of d) (accepted-sized text d g)

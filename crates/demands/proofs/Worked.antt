@@ -4,31 +4,31 @@ use native.Mathlib.Decide.{dec_le}
 use mathlib.Core.Path.{◌≡◌, refl}
 use mathlib.Core.List.{map}
 use Rattle.laws.specs.Pick.{same_list}
-use Rattle.words.specs.Vocabulary.{subset, others, vocabulary, rowFrom, row_of, tokenAt, wordToken}
-use Rattle.lexis.specs.Byte.{classOf}
-use Rattle.lexis.specs.Blank.{skipFrom}
-use Rattle.lexis.specs.Run.{runLength, allDigits, singles}
-use Rattle.lexis.specs.Token.{mark_of, lexemeOf, scanOf, overText, firstRefused, tokensOf}
+use Rattle.words.specs.Vocabulary.{subset, others, vocabulary, row_from, row_of, token_at, word_token}
+use Rattle.lexis.specs.Byte.{class_of}
+use Rattle.lexis.specs.Blank.{skip_from}
+use Rattle.lexis.specs.Run.{run_length, all_digits, singles}
+use Rattle.lexis.specs.Token.{mark_of, lexeme_of, scan_of, over_text, first_refused, tokens_of}
 use Rattle.syntax.proofs.Theorem.{read}
 use Rattle.names.specs.Judge.{judged}
-use Rattle.names.proofs.Answer.{answerTo}
+use Rattle.names.proofs.Answer.{answer_to}
 use Rattle.rules.specs.Formulas.{value, size}
-use Rattle.rules.specs.Pending.{before, post, taken, kept, valuesAt, dueIn, due, leastIn, least}
+use Rattle.rules.specs.Pending.{before, post, taken, kept, values_at, due_in, due, least_in, least}
 use Rattle.rules.specs.Runner.{over, joined}
 use Rattle.rules.specs.Statements.{after, steps, assigns, member, means}
-use Rattle.rules.specs.Session.{anyBelow, woken}
-use Rattle.rules.specs.Dump.{variables, header, digits, decimal, all, startBytes, changed, advanceBytes}
+use Rattle.rules.specs.Session.{any_below, woken}
+use Rattle.rules.specs.Dump.{variables, header, digits, decimal, all, start_bytes, changed, advance_bytes}
 use Rattle.rules.specs.Calls.{cycle, cycles, started, start, advance, advances, calls}
-use Rattle.demands.specs.Shown.{designCalls, designHeader, Seen, seen}
+use Rattle.demands.specs.Shown.{design_calls, design_header, Seen, seen}
 use Rattle.demands.specs.Cases.{Case, cases}
 
 -- what a text shows with these stops
 unfoldable pub shows : Case → Seen
-shows c = seen (answerTo c.text) c.stops
+shows c = seen (answer_to c.text) c.stops
 
 -- the same, opened to be computed
 computed : Case → Seen
-unfolding shows designCalls designHeader answerTo read dec_le judged same_list firstRefused tokensOf overText scanOf lexemeOf mark_of skipFrom runLength allDigits singles classOf wordToken tokenAt row_of rowFrom vocabulary others subset value size before post taken kept valuesAt dueIn due leastIn least over joined after steps assigns member means anyBelow woken variables header digits decimal all startBytes changed advanceBytes cycle cycles started start advance advances calls
+unfolding shows design_calls design_header answer_to read dec_le judged same_list first_refused tokens_of over_text scan_of lexeme_of mark_of skip_from run_length all_digits singles class_of word_token token_at row_of row_from vocabulary others subset value size before post taken kept values_at due_in due least_in least over joined after steps assigns member means any_below woken variables header digits decimal all start_bytes changed advance_bytes cycle cycles started start advance advances calls
 computed c = shows c
 
 pub worked : map shows cases ≡ map (λ c. c.expected) cases

@@ -20,12 +20,12 @@ written c = map means c.processes
 pub record AsWritten (c : Circuit) (table : List ℕ) : Type 0 where
   pub fit : FitTableWords table
   -- the start: answer, session, bytes
-  pub starts : (session out sessionLeft outLeft : List ℕ) (answer : Answer) → LongEnough table session out → Starts table session out answer sessionLeft outLeft
-      → Gives (start (written c) c.initial) session out answer sessionLeft outLeft
+  pub starts : (session out session_left out_left : List ℕ) (answer : Answer) → LongEnough table session out → Starts table session out answer session_left out_left
+      → Gives (start (written c) c.initial) session out answer session_left out_left
   -- an advance, from every fit session
   pub advances : (stop : ℕ) → stop ≤ longest → (s : Session) → FitSession (written c) (length c.initial) s
-      → (session out sessionLeft outLeft : List ℕ) (answer : Answer) → LongEnough table session out → HoldsSession session s
-      → Advances table session out stop answer sessionLeft outLeft → Gives (advance (written c) stop s) session out answer sessionLeft outLeft
+      → (session out session_left out_left : List ℕ) (answer : Answer) → LongEnough table session out → HoldsSession session s
+      → Advances table session out stop answer session_left out_left → Gives (advance (written c) stop s) session out answer session_left out_left
   -- the start and any number of advances after it
-  pub runs : (session out sessionLeft outLeft : List ℕ) (answer : Answer) → LongEnough table session out → Starts table session out answer sessionLeft outLeft
-      → (more : List Call) → Called table sessionLeft more → GivenAfter (written c) (start (written c) c.initial) sessionLeft more
+  pub runs : (session out session_left out_left : List ℕ) (answer : Answer) → LongEnough table session out → Starts table session out answer session_left out_left
+      → (more : List Call) → Called table session_left more → GivenAfter (written c) (start (written c) c.initial) session_left more

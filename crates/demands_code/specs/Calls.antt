@@ -4,7 +4,7 @@ use Rattle.std.specs.Prelude.{ℕ, ◌≤◌, List, [], ◌∷◌}
 use Rattle.words.specs.Unit.{longest}
 use Rattle.rules.specs.Runner.{Runner}
 use Rattle.rules.specs.Session.{Session}
-use Rattle.rules.specs.Calls.{refused, quiet, stopReached, moved, advance, leaves}
+use Rattle.rules.specs.Calls.{refused, quiet, stop_reached, moved, advance, leaves}
 use Rattle.rules.specs.Calls as calls
 use Rattle.session.specs.declared.Answer.{Answer}
 use Rattle.run.specs.Lent.{LongEnough, Gives, Advances}
@@ -14,27 +14,27 @@ pub record Call : Type 0 where
   pub stop : ℕ
   pub out : List ℕ
   pub answer : Answer
-  pub sessionLeft : List ℕ
-  pub outLeft : List ℕ
+  pub session_left : List ℕ
+  pub out_left : List ℕ
 
 -- each call on the session's words that the one before left, with buffers that are long enough
 unfoldable pub Called : (table session : List ℕ) → List Call → Type 0
 Called table session [] = Unit {0}
 Called table session (c ∷ more) =
-    LongEnough table session c.out × (c.stop ≤ longest) × Advances table session c.out c.stop c.answer c.sessionLeft c.outLeft
-    × Called table c.sessionLeft more
+    LongEnough table session c.out × (c.stop ≤ longest) × Advances table session c.out c.stop c.answer c.session_left c.out_left
+    × Called table c.session_left more
 
 -- each call gives the answer, the words and the bytes that the rules give on the processes rs, from the session s on
 unfoldable pub Given : List Runner → (s : Session) (session : List ℕ) → List Call → Type 0
 Given rs s session [] = Unit {0}
 Given rs s session (c ∷ more) =
-    Gives (advance rs c.stop s) session c.out c.answer c.sessionLeft c.outLeft × Given rs (leaves (advance rs c.stop s) s) c.sessionLeft more
+    Gives (advance rs c.stop s) session c.out c.answer c.session_left c.out_left × Given rs (leaves (advance rs c.stop s) s) c.session_left more
 
 -- and so after a start that answered o; where a start is refused there is no session to go on from
 abbrev pub GivenAfter : List Runner → calls.Answer → (session : List ℕ) → List Call → Type 0
 GivenAfter rs (refused r) session more = Unit {0}
 GivenAfter rs quiet session more = Unit {0}
-GivenAfter rs stopReached session more = Unit {0}
+GivenAfter rs stop_reached session more = Unit {0}
 GivenAfter rs (moved m) session more = Given rs m.session session more
 
 -- after a start that is refused, nothing is said of the calls that follow

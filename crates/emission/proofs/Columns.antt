@@ -11,7 +11,7 @@ use borrow.Author.Tests.{eqb-true, eqb-false}
 use Rattle.laws.specs.Pick.{pick}
 use Rattle.table.specs.Instructions.{Instruction}
 use Rattle.table.specs.Translation.{number}
-use Rattle.layout.specs.TableWords.{initialFrom, listenersFrom, endsFrom, operationsFrom, delaysFrom, tableSize, operationWord, delayWord}
+use Rattle.layout.specs.TableWords.{initial_from, listeners_from, ends_from, operations_from, delays_from, table_size, operation_word, delay_word}
 
 -- so many words from a place on are those of f
 abbrev pub Column : List ℕ → (from size : ℕ) → (ℕ → ℕ) → Type 0
@@ -33,80 +33,80 @@ snoc (x ∷ list) v zero = rw (eqb-suc-zero (length list))
 snoc (x ∷ list) v (suc k) = rw (eqb-suc-suc (length list) k) (snoc list v k)
 
 -- and it is the next
-next-column : {A : Type 0} (f : A → ℕ) (words : List ℕ) (from size : ℕ) (list : List A) (a : A) → Column words from size (λ k. get_or (map f list) k 0)
+next_column : {A : Type 0} (f : A → ℕ) (words : List ℕ) (from size : ℕ) (list : List A) (a : A) → Column words from size (λ k. get_or (map f list) k 0)
     → from + size ≤ length words → length list < size → Column (set words (from + length list) (f a)) from size (λ k. get_or (map f (list ++ (a ∷ []))) k 0)
-next-column f words from size list a c l h k g =
+next_column f words from size list a c l h k g =
     set-column words from size (length list) (f a) _ c l h k g
     ∙ ap (λ n. pick (eqb n k) (f a) (get_or (map f list) k 0)) (sym (length-map list f))
     ∙ sym (snoc (map f list) (f a) k)
     ∙ ap (λ l. get_or l k 0) (sym (map-append f list (a ∷ [])))
 
 -- none of them is
-other-column : (words : List ℕ) (from size i v : ℕ) (f : ℕ → ℕ) → ((k : ℕ) → k < size → ¬ (from + k ≡ i)) → Column words from size f → Column (set words i v) from size f
-other-column words from size i v f h c k l = get_or-set_other words i (from + k) v 0 (h k l) ∙ c k l
+other_column : (words : List ℕ) (from size i v : ℕ) (f : ℕ → ℕ) → ((k : ℕ) → k < size → ¬ (from + k ≡ i)) → Column words from size f → Column (set words i v) from size f
+other_column words from size i v f h c k l = get_or-set_other words i (from + k) v 0 (h k l) ∙ c k l
 
 -- a table that is being written, and what stands behind it
 pub record Filled (words behind : List ℕ) (values : List Bool) (wakes : ℕ → ℕ) (ends : List ℕ) (code : List Instruction) : Type 0 where
-  pub long : tableSize ≤ length words
-  pub after : drop tableSize words ≡ behind
-  pub initial : Column words initialFrom 64 (λ k. get_or (map number values) k 0)
-  pub listeners : Column words listenersFrom 64 wakes
-  pub ended : Column words endsFrom 64 (λ p. get_or ends p 0)
-  pub operations : Column words operationsFrom 4096 (λ x. get_or (map operationWord code) x 0)
-  pub delays : Column words delaysFrom 4096 (λ x. get_or (map delayWord code) x 0)
+  pub long : table_size ≤ length words
+  pub after : drop table_size words ≡ behind
+  pub initial : Column words initial_from 64 (λ k. get_or (map number values) k 0)
+  pub listeners : Column words listeners_from 64 wakes
+  pub ended : Column words ends_from 64 (λ p. get_or ends p 0)
+  pub operations : Column words operations_from 4096 (λ x. get_or (map operation_word code) x 0)
+  pub delays : Column words delays_from 4096 (λ x. get_or (map delay_word code) x 0)
 
 module _ {words behind : List ℕ} {values : List Bool} {wakes : ℕ → ℕ} {ends : List ℕ} {code : List Instruction} (f : Filled words behind values wakes ends code) where
-  keeps-long : (i v : ℕ) → tableSize ≤ length (set words i v)
+  keeps-long : (i v : ℕ) → table_size ≤ length (set words i v)
   keeps-long i v = omega (arith, f.long, length-set words i v)
 
-  keeps-after : (i v : ℕ) → i < tableSize → drop tableSize (set words i v) ≡ behind
-  keeps-after i v l = drop-set-lt tableSize words i v l ∙ f.after
+  keeps-after : (i v : ℕ) → i < table_size → drop table_size (set words i v) ≡ behind
+  keeps-after i v l = drop-set-lt table_size words i v l ∙ f.after
 
   -- a count, before all columns
-  pub filled-count : (i v : ℕ) → i < initialFrom → Filled (set words i v) behind values wakes ends code
+  pub filled-count : (i v : ℕ) → i < initial_from → Filled (set words i v) behind values wakes ends code
   filled-count i v l =
       record {
         long = keeps-long i v;
         after = keeps-after i v (omega arith);
-        initial = other-column words initialFrom 64 i v _ (omega arith) f.initial;
-        listeners = other-column words listenersFrom 64 i v _ (omega arith) f.listeners;
-        ended = other-column words endsFrom 64 i v _ (omega arith) f.ended;
-        operations = other-column words operationsFrom 4096 i v _ (omega arith) f.operations;
-        delays = other-column words delaysFrom 4096 i v _ (omega arith) f.delays;
+        initial = other_column words initial_from 64 i v _ (omega arith) f.initial;
+        listeners = other_column words listeners_from 64 i v _ (omega arith) f.listeners;
+        ended = other_column words ends_from 64 i v _ (omega arith) f.ended;
+        operations = other_column words operations_from 4096 i v _ (omega arith) f.operations;
+        delays = other_column words delays_from 4096 i v _ (omega arith) f.delays;
       }
 
   -- the next starting value
-  pub filled-value : (b : Bool) → length values < 64 → Filled (set words (initialFrom + length values) (number b)) behind (values ++ (b ∷ [])) wakes ends code
+  pub filled-value : (b : Bool) → length values < 64 → Filled (set words (initial_from + length values) (number b)) behind (values ++ (b ∷ [])) wakes ends code
   filled-value b l =
-      let i = initialFrom + length values in
+      let i = initial_from + length values in
       let v = number b in
       record {
         long = keeps-long i v;
         after = keeps-after i v (omega arith);
-        initial = next-column number words initialFrom 64 values b f.initial (omega (arith, f.long)) l;
-        listeners = other-column words listenersFrom 64 i v _ (omega arith) f.listeners;
-        ended = other-column words endsFrom 64 i v _ (omega arith) f.ended;
-        operations = other-column words operationsFrom 4096 i v _ (omega arith) f.operations;
-        delays = other-column words delaysFrom 4096 i v _ (omega arith) f.delays;
+        initial = next_column number words initial_from 64 values b f.initial (omega (arith, f.long)) l;
+        listeners = other_column words listeners_from 64 i v _ (omega arith) f.listeners;
+        ended = other_column words ends_from 64 i v _ (omega arith) f.ended;
+        operations = other_column words operations_from 4096 i v _ (omega arith) f.operations;
+        delays = other_column words delays_from 4096 i v _ (omega arith) f.delays;
       }
 
   -- signal s wakes others
-  pub filled-wakes : (s v : ℕ) → s < 64 → Filled (set words (listenersFrom + s) v) behind values (λ k. pick (eqb s k) v (wakes k)) ends code
+  pub filled-wakes : (s v : ℕ) → s < 64 → Filled (set words (listeners_from + s) v) behind values (λ k. pick (eqb s k) v (wakes k)) ends code
   filled-wakes s v l =
-      let i = listenersFrom + s in
+      let i = listeners_from + s in
       record {
         long = keeps-long i v;
         after = keeps-after i v (omega arith);
-        initial = other-column words initialFrom 64 i v _ (omega arith) f.initial;
-        listeners = set-column words listenersFrom 64 s v wakes f.listeners (omega (arith, f.long)) l;
-        ended = other-column words endsFrom 64 i v _ (omega arith) f.ended;
-        operations = other-column words operationsFrom 4096 i v _ (omega arith) f.operations;
-        delays = other-column words delaysFrom 4096 i v _ (omega arith) f.delays;
+        initial = other_column words initial_from 64 i v _ (omega arith) f.initial;
+        listeners = set-column words listeners_from 64 s v wakes f.listeners (omega (arith, f.long)) l;
+        ended = other_column words ends_from 64 i v _ (omega arith) f.ended;
+        operations = other_column words operations_from 4096 i v _ (omega arith) f.operations;
+        delays = other_column words delays_from 4096 i v _ (omega arith) f.delays;
       }
 
   -- wakes that agree
-  pub filled-same : (others : ℕ → ℕ) → ((k : ℕ) → k < 64 → wakes k ≡ others k) → Filled words behind values others ends code
-  filled-same others h =
+  pub filled_same : (others : ℕ → ℕ) → ((k : ℕ) → k < 64 → wakes k ≡ others k) → Filled words behind values others ends code
+  filled_same others h =
       record {
         long = f.long;
         after = f.after;
@@ -118,37 +118,37 @@ module _ {words behind : List ℕ} {values : List Bool} {wakes : ℕ → ℕ} {e
       }
 
   -- the next process ends
-  pub filled-end : (v : ℕ) → length ends < 64 → Filled (set words (endsFrom + length ends) v) behind values wakes (ends ++ (v ∷ [])) code
-  filled-end v l =
-      let i = endsFrom + length ends in
+  pub filled_end : (v : ℕ) → length ends < 64 → Filled (set words (ends_from + length ends) v) behind values wakes (ends ++ (v ∷ [])) code
+  filled_end v l =
+      let i = ends_from + length ends in
       record {
         long = keeps-long i v;
         after = keeps-after i v (omega arith);
-        initial = other-column words initialFrom 64 i v _ (omega arith) f.initial;
-        listeners = other-column words listenersFrom 64 i v _ (omega arith) f.listeners;
+        initial = other_column words initial_from 64 i v _ (omega arith) f.initial;
+        listeners = other_column words listeners_from 64 i v _ (omega arith) f.listeners;
         ended = λ k g.
-            set-column words endsFrom 64 (length ends) v _ f.ended (omega (arith, f.long)) l k g ∙ sym (snoc ends v k);
-        operations = other-column words operationsFrom 4096 i v _ (omega arith) f.operations;
-        delays = other-column words delaysFrom 4096 i v _ (omega arith) f.delays;
+            set-column words ends_from 64 (length ends) v _ f.ended (omega (arith, f.long)) l k g ∙ sym (snoc ends v k);
+        operations = other_column words operations_from 4096 i v _ (omega arith) f.operations;
+        delays = other_column words delays_from 4096 i v _ (omega arith) f.delays;
       }
 
   -- the next instruction
   pub filled_put : (i : Instruction) → length code < 4096
-      → Filled (set (set words (operationsFrom + length code) (operationWord i)) (delaysFrom + length code) (delayWord i)) behind values wakes ends (code ++ (i ∷ []))
+      → Filled (set (set words (operations_from + length code) (operation_word i)) (delays_from + length code) (delay_word i)) behind values wakes ends (code ++ (i ∷ []))
   filled_put i l =
-      let a = operationsFrom + length code in
-      let b = delaysFrom + length code in
-      let o = operationWord i in
-      let d = delayWord i in
+      let a = operations_from + length code in
+      let b = delays_from + length code in
+      let o = operation_word i in
+      let d = delay_word i in
       let them = set words a o in
       record {
         long = omega (arith, f.long, length-set words a o, length-set them b d);
-        after = drop-set-lt tableSize them b d (omega arith) ∙ keeps-after a o (omega arith);
-        initial = other-column them initialFrom 64 b d _ (omega arith) (other-column words initialFrom 64 a o _ (omega arith) f.initial);
-        listeners = other-column them listenersFrom 64 b d _ (omega arith) (other-column words listenersFrom 64 a o _ (omega arith) f.listeners);
-        ended = other-column them endsFrom 64 b d _ (omega arith) (other-column words endsFrom 64 a o _ (omega arith) f.ended);
-        operations = other-column them operationsFrom 4096 b d _ (omega arith)
-            (next-column operationWord words operationsFrom 4096 code i f.operations (omega (arith, f.long)) l);
-        delays = next-column delayWord them delaysFrom 4096 code i (other-column words delaysFrom 4096 a o _ (omega arith) f.delays)
+        after = drop-set-lt table_size them b d (omega arith) ∙ keeps-after a o (omega arith);
+        initial = other_column them initial_from 64 b d _ (omega arith) (other_column words initial_from 64 a o _ (omega arith) f.initial);
+        listeners = other_column them listeners_from 64 b d _ (omega arith) (other_column words listeners_from 64 a o _ (omega arith) f.listeners);
+        ended = other_column them ends_from 64 b d _ (omega arith) (other_column words ends_from 64 a o _ (omega arith) f.ended);
+        operations = other_column them operations_from 4096 b d _ (omega arith)
+            (next_column operation_word words operations_from 4096 code i f.operations (omega (arith, f.long)) l);
+        delays = next_column delay_word them delays_from 4096 code i (other_column words delays_from 4096 a o _ (omega arith) f.delays)
             (omega (arith, f.long, length-set words a o)) l;
       }

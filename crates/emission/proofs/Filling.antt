@@ -8,11 +8,11 @@ use native.Mathlib.Omega.{arith}
 use lib.ListN.{length, set, drop, length-set}
 use Rattle.emission.specs.Inside.Draft.{zeros, ones}
 
-pub zeros-more : (words : List ℕ) (k : ℕ) → k < length words → set (zeros k ++ drop k words) k 0 ≡ zeros (k + 1) ++ drop (k + 1) words
+pub zeros_more : (words : List ℕ) (k : ℕ) → k < length words → set (zeros k ++ drop k words) k 0 ≡ zeros (k + 1) ++ drop (k + 1) words
 unfolding zeros
-zeros-more [] k l = absurd (omega arith)
-zeros-more (x ∷ xs) zero l = refl
-zeros-more (x ∷ xs) (suc k) l = rw (add-one (suc k)) (ap (λ (r : List ℕ). 0 ∷ r) (zeros-more xs k (omega arith) ∙ rw (add-one k)))
+zeros_more [] k l = absurd (omega arith)
+zeros_more (x ∷ xs) zero l = refl
+zeros_more (x ∷ xs) (suc k) l = rw (add-one (suc k)) (ap (λ (r : List ℕ). 0 ∷ r) (zeros_more xs k (omega arith) ∙ rw (add-one k)))
 
 pub length-zeros : (words : List ℕ) (k : ℕ) → k ≤ length words → length (zeros k ++ drop k words) ≡ length words
 unfolding zeros
@@ -20,10 +20,10 @@ length-zeros words zero l = refl
 length-zeros [] (suc k) l = absurd (omega arith)
 length-zeros (x ∷ xs) (suc k) l = ap suc (length-zeros xs k (omega arith))
 
-pub ones-more : (words : List ℕ) (k count : ℕ) → set (ones words k count) (k + count) 1 ≡ ones words k (suc count)
+pub ones_more : (words : List ℕ) (k count : ℕ) → set (ones words k count) (k + count) 1 ≡ ones words k (suc count)
 unfolding ones
-ones-more words k zero = let e : k + 0 ≡ k = omega arith in rw e
-ones-more words k (suc count) = let e : k + suc count ≡ k + 1 + count = omega arith in rw e (ones-more (set words k 1) (k + 1) count)
+ones_more words k zero = let e : k + 0 ≡ k = omega arith in rw e
+ones_more words k (suc count) = let e : k + suc count ≡ k + 1 + count = omega arith in rw e (ones_more (set words k 1) (k + 1) count)
 
 pub length-ones : (words : List ℕ) (k count : ℕ) → length (ones words k count) ≡ length words
 unfolding ones

@@ -10,7 +10,7 @@ use lib.Seq.{set-set, set_comm}
 use borrow.Author.Tests.{lt-ltb, ltb-true}
 use Rattle.laws.specs.Pick.{pick}
 use Rattle.table.specs.Instructions.{Instruction}
-use Rattle.layout.specs.TableWords.{operationsFrom, delaysFrom, operationWord, delayWord}
+use Rattle.layout.specs.TableWords.{operations_from, delays_from, operation_word, delay_word}
 use Rattle.emission.specs.Inside.Draft.{Draft, placed, following, with_words, put}
 
 abbrev pub puts : List Instruction → Draft → Draft
@@ -31,40 +31,40 @@ unfolding put
 puts-processes [] m = refl
 puts-processes (i ∷ is) m = puts-processes is (put i m)
 
-pub next-put : (i : Instruction) (m : Draft) → m.next < 4096 → (put i m).next ≡ m.next + 1
+pub next_put : (i : Instruction) (m : Draft) → m.next < 4096 → (put i m).next ≡ m.next + 1
 unfolding put
-next-put i m l = rw (lt-ltb m.next 4096 l)
+next_put i m l = rw (lt-ltb m.next 4096 l)
 
-pub puts-next : (is : List Instruction) (m : Draft) → m.next + length is ≤ 4096 → (puts is m).next ≡ m.next + length is
-puts-next [] m l = omega arith
-puts-next (i ∷ is) m l = let e = next-put i m (omega arith) in omega (arith, puts-next is (put i m) (omega arith))
+pub puts_next : (is : List Instruction) (m : Draft) → m.next + length is ≤ 4096 → (puts is m).next ≡ m.next + length is
+puts_next [] m l = omega arith
+puts_next (i ∷ is) m l = let e = next_put i m (omega arith) in omega (arith, puts_next is (put i m) (omega arith))
 
 -- the operation at address n anew
 abbrev pub anew : (n operation : ℕ) → Draft → Draft
-anew n operation m = with_words (set m.words (operationsFrom + n) operation) m
+anew n operation m = with_words (set m.words (operations_from + n) operation) m
 
 placed-anew : (words : List ℕ) (n k operation delay other : ℕ) → n < k
-    → set (placed words k operation delay) (operationsFrom + n) other ≡ placed (set words (operationsFrom + n) other) k operation delay
+    → set (placed words k operation delay) (operations_from + n) other ≡ placed (set words (operations_from + n) other) k operation delay
 placed-anew words n k operation delay other l = go (ltb k 4096) refl
   where
     go : (b : Bool) → ltb k 4096 ≡ b
-        → set (pick b (set (set words (operationsFrom + k) operation) (delaysFrom + k) delay) words) (operationsFrom + n) other
-        ≡ pick b (set (set (set words (operationsFrom + n) other) (operationsFrom + k) operation) (delaysFrom + k) delay) (set words (operationsFrom + n) other)
+        → set (pick b (set (set words (operations_from + k) operation) (delays_from + k) delay) words) (operations_from + n) other
+        ≡ pick b (set (set (set words (operations_from + n) other) (operations_from + k) operation) (delays_from + k) delay) (set words (operations_from + n) other)
     go true e =
         let h = ltb-true k 4096 e in
-        set_comm (set words (operationsFrom + k) operation) (delaysFrom + k) (operationsFrom + n) delay other (omega arith)
-        ∙ ap (λ ws. set ws (delaysFrom + k) delay) (set_comm words (operationsFrom + k) (operationsFrom + n) operation other (omega arith))
+        set_comm (set words (operations_from + k) operation) (delays_from + k) (operations_from + n) delay other (omega arith)
+        ∙ ap (λ ws. set ws (delays_from + k) delay) (set_comm words (operations_from + k) (operations_from + n) operation other (omega arith))
     go false e = refl
 
 anew-put : (i : Instruction) (n operation : ℕ) (m : Draft) → n < m.next → anew n operation (put i m) ≡ put i (anew n operation m)
 unfolding put
 anew-put i n operation m l =
     ap (λ ws. record { words = ws; next = following m.next; names = m.names; processes = m.processes })
-    (placed-anew m.words n m.next (operationWord i) (delayWord i) operation l)
+    (placed-anew m.words n m.next (operation_word i) (delay_word i) operation l)
 
-next-least : (i : Instruction) (m : Draft) → m.next ≤ (put i m).next
+next_least : (i : Instruction) (m : Draft) → m.next ≤ (put i m).next
 unfolding put
-next-least i m = go (ltb m.next 4096)
+next_least i m = go (ltb m.next 4096)
   where
     go : (b : Bool) → m.next ≤ pick b (m.next + 1) m.next
     go true = omega arith
@@ -73,13 +73,13 @@ next-least i m = go (ltb m.next 4096)
 -- instructions behind it stay
 pub anew-puts : (is : List Instruction) (n operation : ℕ) (m : Draft) → n < m.next → anew n operation (puts is m) ≡ puts is (anew n operation m)
 anew-puts [] n operation m l = refl
-anew-puts (i ∷ is) n operation m l = anew-puts is n operation (put i m) (omega (arith, next-least i m)) ∙ ap (puts is) (anew-put i n operation m l)
+anew-puts (i ∷ is) n operation m l = anew-puts is n operation (put i m) (omega (arith, next_least i m)) ∙ ap (puts is) (anew-put i n operation m l)
 
 -- and it is another instruction with the same delay
-pub anew-other : (i j : Instruction) (m : Draft) → m.next < 4096 → delayWord i ≡ delayWord j → anew m.next (operationWord j) (put i m) ≡ put j m
+pub anew_other : (i j : Instruction) (m : Draft) → m.next < 4096 → delay_word i ≡ delay_word j → anew m.next (operation_word j) (put i m) ≡ put j m
 unfolding put
-anew-other i j m l e =
+anew_other i j m l e =
     ap (λ ws. record { words = ws; next = following m.next; names = m.names; processes = m.processes })
     (rw (lt-ltb m.next 4096 l, e)
-    (set_comm (set m.words (operationsFrom + m.next) (operationWord i)) (delaysFrom + m.next) (operationsFrom + m.next) (delayWord j) (operationWord j) (omega arith)
-    ∙ ap (λ ws. set ws (delaysFrom + m.next) (delayWord j)) (set-set m.words (operationsFrom + m.next) (operationWord i) (operationWord j))))
+    (set_comm (set m.words (operations_from + m.next) (operation_word i)) (delays_from + m.next) (operations_from + m.next) (delay_word j) (operation_word j) (omega arith)
+    ∙ ap (λ ws. set ws (delays_from + m.next) (delay_word j)) (set-set m.words (operations_from + m.next) (operation_word i) (operation_word j))))

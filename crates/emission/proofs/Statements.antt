@@ -13,11 +13,11 @@ use Rattle.table.specs.Instructions.{Instruction, test, skip}
 use Rattle.table.specs.Translation.{code}
 use Rattle.table.proofs.Faithful.{front}
 use Rattle.names.specs.Judge.{number_of}
-use Rattle.names.specs.CircuitOf.{expressionFormula, delayFemtoseconds, statementsActions, statementActions, otherwiseActions}
-use Rattle.layout.specs.TableWords.{operationWord}
-use Rattle.emission.specs.Inside.Draft.{Draft, put, withTargets, expressionDraft, statementsDraft, statementDraft, otherwiseDraft}
-use Rattle.emission.proofs.Laid.{puts, puts-append, puts-names, next-put, anew, anew-puts, anew-other}
-use Rattle.emission.proofs.Expressions.{Writes, same_names, expression-writes, expression-next}
+use Rattle.names.specs.CircuitOf.{expression_formula, delay_femtoseconds, statements_actions, statement_actions, otherwise_actions}
+use Rattle.layout.specs.TableWords.{operation_word}
+use Rattle.emission.specs.Inside.Draft.{Draft, put, with_targets, expression_draft, statements_draft, statement_draft, otherwise_draft}
+use Rattle.emission.proofs.Laid.{puts, puts-append, puts-names, next_put, anew, anew-puts, anew_other}
+use Rattle.emission.proofs.Expressions.{Writes, same_names, expression-writes, expression_next}
 
 -- n is m with the code of the actions, but for the rest of them
 pub record Reaches (actions : Actions) (m : Draft) (rest : Actions) (n : Draft) : Type 0 where
@@ -27,8 +27,8 @@ pub record Reaches (actions : Actions) (m : Draft) (rest : Actions) (n : Draft) 
 onward : {a b c : Actions} {m n l : Draft} → Reaches a m b n → Reaches b n c l → Reaches a m c l
 onward r s = record { address = s.address ∙ r.address; written = r.written ∙ s.written }
 
-reaches-names : (a b : Actions) (m n : Draft) → Reaches a m b n → n.names ≡ m.names
-reaches-names a b m n r =
+reaches_names : (a b : Actions) (m n : Draft) → Reaches a m b n → n.names ≡ m.names
+reaches_names a b m n r =
     sym (puts-names (code n.next b []) n) ∙ ap (λ d. d.names) (sym r.written) ∙ puts-names (code m.next a []) m
 
 puts-code : (a : Actions) (x : ℕ) (is : List Instruction) (m : Draft) → puts (code x a is) m ≡ puts is (puts (code x a []) m)
@@ -37,36 +37,36 @@ puts-code a x is m = ap (λ js. puts js m) (front a x [] is) ∙ puts-append (co
 -- BRANCHES
 
 aimed-anew : (a b c : Draft) → a.next < 4096 → b.next < 4096 → c.next ≤ 4096
-    → withTargets a b c ≡ anew b.next (operationWord (skip c.next)) (anew a.next (operationWord (test (b.next + 1))) c)
-unfolding withTargets
+    → with_targets a b c ≡ anew b.next (operation_word (skip c.next)) (anew a.next (operation_word (test (b.next + 1))) c)
+unfolding with_targets
 aimed-anew a b c k l h = rw (lt-ltb a.next 4096 k, lt-ltb b.next 4096 l, le-ltb 4096 (b.next + 1) (omega arith), le-ltb 4096 c.next h)
 
 -- the instructions of the arms stand between a test and a skip with their targets
 targets : (is js : List Instruction) (a b c : Draft) → b ≡ puts is (put (test 0) a) → c ≡ puts js (put (skip 0) b)
     → a.next < b.next → b.next < 4096 → c.next ≤ 4096
-    → withTargets a b c ≡ puts js (put (skip c.next) (puts is (put (test (b.next + 1)) a)))
+    → with_targets a b c ≡ puts js (put (skip c.next) (puts is (put (test (b.next + 1)) a)))
 targets is js a b c p q h k l =
-    let to = operationWord (test (b.next + 1)) in
-    let over = operationWord (skip c.next) in
-    let g = next-put (test 0) a (omega arith) in
+    let to = operation_word (test (b.next + 1)) in
+    let over = operation_word (skip c.next) in
+    let g = next_put (test 0) a (omega arith) in
     let b' : anew a.next to b ≡ puts is (put (test (b.next + 1)) a) =
-    ap (anew a.next to) p ∙ anew-puts is a.next to (put (test 0) a) (omega arith) ∙ ap (puts is) (anew-other (test 0) (test (b.next + 1)) a (omega arith) refl) in
+    ap (anew a.next to) p ∙ anew-puts is a.next to (put (test 0) a) (omega arith) ∙ ap (puts is) (anew_other (test 0) (test (b.next + 1)) a (omega arith) refl) in
     aimed-anew a b c (omega arith) k l
     ∙ ap (λ d. anew b.next over (anew a.next to d)) q
     ∙ ap (anew b.next over) (anew-puts (skip 0 ∷ js) a.next to b h)
-    ∙ anew-puts js b.next over (put (skip 0) (anew a.next to b)) (omega (arith, next-put (skip 0) (anew a.next to b) k))
-    ∙ ap (puts js) (anew-other (skip 0) (skip c.next) (anew a.next to b) k refl)
+    ∙ anew-puts js b.next over (put (skip 0) (anew a.next to b)) (omega (arith, next_put (skip 0) (anew a.next to b) k))
+    ∙ ap (puts js) (anew_other (skip 0) (skip c.next) (anew a.next to b) k refl)
     ∙ ap (λ d. puts js (put (skip c.next) d)) b'
 
-branch-reaches : (f : Formula) (first second rest : Actions) (m a b c : Draft) → Writes f m a → a.next ≡ m.next + size f
+branch_reaches : (f : Formula) (first second rest : Actions) (m a b c : Draft) → Writes f m a → a.next ≡ m.next + size f
     → Reaches first (put (test 0) a) Actions.done b → Reaches second (put (skip 0) b) Actions.done c
     → m.next + instructions (Actions.branch f first second rest) ≤ 4096
-    → Reaches (Actions.branch f first second rest) m rest (withTargets a b c)
-unfolding code instructions withTargets
-branch-reaches f first second rest m a b c w n r s l =
-    let y : (put (test 0) a).next ≡ m.next + (size f + 1) = omega (arith, next-put (test 0) a (omega arith)) in
+    → Reaches (Actions.branch f first second rest) m rest (with_targets a b c)
+unfolding code instructions with_targets
+branch_reaches f first second rest m a b c w n r s l =
+    let y : (put (test 0) a).next ≡ m.next + (size f + 1) = omega (arith, next_put (test 0) a (omega arith)) in
     let e = r.address in
-    let z : (put (skip 0) b).next ≡ m.next + (size f + 1) + (instructions first + 1) = omega (arith, next-put (skip 0) b (omega arith)) in
+    let z : (put (skip 0) b).next ≡ m.next + (size f + 1) + (instructions first + 1) = omega (arith, next_put (skip 0) b (omega arith)) in
     let z' : b.next + 1 ≡ m.next + (size f + 1) + (instructions first + 1) = omega arith in
     let v : c.next ≡ m.next + (size f + 1) + (instructions first + 1) + instructions second = omega (arith, s.address) in
     record {
@@ -82,61 +82,61 @@ branch-reaches f first second rest m a b c w n r s l =
 
 -- STATEMENTS, over the names ns
 
-formula-writes : (e : Expression) (ns : List Name) (m : Draft) → m.names ≡ ns → Writes (expressionFormula e ns) m (expressionDraft e m)
-formula-writes e ns m q = subst (λ ms. Writes (expressionFormula e ms) m (expressionDraft e m)) q (expression-writes e m)
+formula_writes : (e : Expression) (ns : List Name) (m : Draft) → m.names ≡ ns → Writes (expression_formula e ns) m (expression_draft e m)
+formula_writes e ns m q = subst (λ ms. Writes (expression_formula e ms) m (expression_draft e m)) q (expression-writes e m)
 
-formula-next : (e : Expression) (ns : List Name) (m : Draft) → m.names ≡ ns → m.next + size (expressionFormula e ns) ≤ 4096
-    → (expressionDraft e m).next ≡ m.next + size (expressionFormula e ns)
-formula-next e ns m q =
-    subst (λ ms. m.next + size (expressionFormula e ms) ≤ 4096 → (expressionDraft e m).next ≡ m.next + size (expressionFormula e ms)) q (expression-next e m)
+formula_next : (e : Expression) (ns : List Name) (m : Draft) → m.names ≡ ns → m.next + size (expression_formula e ns) ≤ 4096
+    → (expression_draft e m).next ≡ m.next + size (expression_formula e ns)
+formula_next e ns m q =
+    subst (λ ms. m.next + size (expression_formula e ms) ≤ 4096 → (expression_draft e m).next ≡ m.next + size (expression_formula e ms)) q (expression_next e m)
 
-assign-reaches : (k delay : ℕ) (f : Formula) (rest : Actions) (m a : Draft) → Writes f m a → a.next ≡ m.next + size f
+assign_reaches : (k delay : ℕ) (f : Formula) (rest : Actions) (m a : Draft) → Writes f m a → a.next ≡ m.next + size f
     → m.next + instructions (Actions.assign k f delay rest) ≤ 4096
     → Reaches (Actions.assign k f delay rest) m rest (put (Instruction.assignment k delay) a)
 unfolding code instructions
-assign-reaches k delay f rest m a w n l =
-    let e = next-put (Instruction.assignment k delay) a (omega arith) in
+assign_reaches k delay f rest m a w n l =
+    let e = next_put (Instruction.assignment k delay) a (omega arith) in
     let y : m.next + (size f + 1) ≡ (put (Instruction.assignment k delay) a).next = omega arith in
     record { address = omega arith; written = w _ ∙ ap (λ x. puts (code x rest []) (put (Instruction.assignment k delay) a)) y }
 
 mutual
   unfolding code instructions put
 
-  pub statements-reach : (ss : Statements) (ns : List Name) (m : Draft) → m.names ≡ ns → m.next + instructions (statementsActions ss ns) ≤ 4096
-      → Reaches (statementsActions ss ns) m Actions.done (statementsDraft ss m)
-  statements-reach done ns m q l = record { address = refl; written = refl }
-  statements-reach (also s ss) ns m q l =
-      let r = statement-reaches s ns (statementsActions ss ns) m q l in
-      let e = reaches-names (statementActions s ns (statementsActions ss ns)) (statementsActions ss ns) m (statementDraft s m) r in
-      onward r (statements-reach ss ns (statementDraft s m) (e ∙ q) (omega (arith, r.address)))
+  pub statements_reach : (ss : Statements) (ns : List Name) (m : Draft) → m.names ≡ ns → m.next + instructions (statements_actions ss ns) ≤ 4096
+      → Reaches (statements_actions ss ns) m Actions.done (statements_draft ss m)
+  statements_reach done ns m q l = record { address = refl; written = refl }
+  statements_reach (also s ss) ns m q l =
+      let r = statement_reaches s ns (statements_actions ss ns) m q l in
+      let e = reaches_names (statement_actions s ns (statements_actions ss ns)) (statements_actions ss ns) m (statement_draft s m) r in
+      onward r (statements_reach ss ns (statement_draft s m) (e ∙ q) (omega (arith, r.address)))
 
-  statement-reaches : (s : Statement) (ns : List Name) (rest : Actions) (m : Draft) → m.names ≡ ns → m.next + instructions (statementActions s ns rest) ≤ 4096
-      → Reaches (statementActions s ns rest) m rest (statementDraft s m)
-  statement-reaches (assignment n e d) ns rest m q l =
-      let f = expressionFormula e ns in
-      let a = expressionDraft e m in
-      let w = formula-writes e ns m q in
-      subst (λ ms. Reaches (Actions.assign (number_of n ns) f (delayFemtoseconds d) rest) m rest (put (Instruction.assignment (number_of n ms) (delayFemtoseconds d)) a))
+  statement_reaches : (s : Statement) (ns : List Name) (rest : Actions) (m : Draft) → m.names ≡ ns → m.next + instructions (statement_actions s ns rest) ≤ 4096
+      → Reaches (statement_actions s ns rest) m rest (statement_draft s m)
+  statement_reaches (assignment n e d) ns rest m q l =
+      let f = expression_formula e ns in
+      let a = expression_draft e m in
+      let w = formula_writes e ns m q in
+      subst (λ ms. Reaches (Actions.assign (number_of n ns) f (delay_femtoseconds d) rest) m rest (put (Instruction.assignment (number_of n ms) (delay_femtoseconds d)) a))
       (sym q)
-      (assign-reaches (number_of n ns) (delayFemtoseconds d) f rest m a w (formula-next e ns m q (omega arith)) l)
-  statement-reaches (conditional e ss o) ns rest m q l =
-      let f = expressionFormula e ns in
-      let first = statementsActions ss ns in
-      let a = expressionDraft e m in
-      let b = statementsDraft ss (put (test 0) a) in
-      let c = otherwiseDraft o (put (skip 0) b) in
-      let w = formula-writes e ns m q in
-      let n = formula-next e ns m q (omega arith) in
-      let y = next-put (test 0) a (omega arith) in
-      let r : Reaches first (put (test 0) a) Actions.done b = statements-reach ss ns (put (test 0) a) (same_names f m a w ∙ q) (omega arith) in
+      (assign_reaches (number_of n ns) (delay_femtoseconds d) f rest m a w (formula_next e ns m q (omega arith)) l)
+  statement_reaches (conditional e ss o) ns rest m q l =
+      let f = expression_formula e ns in
+      let first = statements_actions ss ns in
+      let a = expression_draft e m in
+      let b = statements_draft ss (put (test 0) a) in
+      let c = otherwise_draft o (put (skip 0) b) in
+      let w = formula_writes e ns m q in
+      let n = formula_next e ns m q (omega arith) in
+      let y = next_put (test 0) a (omega arith) in
+      let r : Reaches first (put (test 0) a) Actions.done b = statements_reach ss ns (put (test 0) a) (same_names f m a w ∙ q) (omega arith) in
       let x = r.address in
-      let z = next-put (skip 0) b (omega arith) in
-      branch-reaches f first (otherwiseActions o ns) rest m a b c w n r
-      (otherwise-reaches o ns (put (skip 0) b) (reaches-names first Actions.done (put (test 0) a) b r ∙ same_names f m a w ∙ q) (omega arith))
+      let z = next_put (skip 0) b (omega arith) in
+      branch_reaches f first (otherwise_actions o ns) rest m a b c w n r
+      (otherwise_reaches o ns (put (skip 0) b) (reaches_names first Actions.done (put (test 0) a) b r ∙ same_names f m a w ∙ q) (omega arith))
       l
-  statement-reaches null ns rest m q l = record { address = refl; written = refl }
+  statement_reaches null ns rest m q l = record { address = refl; written = refl }
 
-  otherwise-reaches : (o : Otherwise) (ns : List Name) (m : Draft) → m.names ≡ ns → m.next + instructions (otherwiseActions o ns) ≤ 4096
-      → Reaches (otherwiseActions o ns) m Actions.done (otherwiseDraft o m)
-  otherwise-reaches missing ns m q l = record { address = refl; written = refl }
-  otherwise-reaches (otherwise ss) ns m q l = statements-reach ss ns m q l
+  otherwise_reaches : (o : Otherwise) (ns : List Name) (m : Draft) → m.names ≡ ns → m.next + instructions (otherwise_actions o ns) ≤ 4096
+      → Reaches (otherwise_actions o ns) m Actions.done (otherwise_draft o m)
+  otherwise_reaches missing ns m q l = record { address = refl; written = refl }
+  otherwise_reaches (otherwise ss) ns m q l = statements_reach ss ns m q l

@@ -1,6 +1,6 @@
 // Words of a table, written while its text is read. Where no word stands nothing is written, so a first run over a short table leaves it.
 ghost use Rattle.std.specs.Prelude.{◌≡◌, ◌≤◌, length, set};
-ghost use Rattle.emission.specs.Inside.Draft.{placed, following, jumpWord, aimed, bit_of, withBit, waking, ended, begun, cleared, binaryKind};
+ghost use Rattle.emission.specs.Inside.Draft.{placed, following, jump_word, aimed, bit_of, with_bit, waking, ended, begun, cleared, binary_kind};
 
 fn write(table: &mut [u64], at: usize, word: u64)
     ensures { table.new ≡ set table.old at word }
@@ -25,7 +25,7 @@ pub fn emit(table: &mut [u64], n: usize, operation: u64, delay: u64) -> usize
 // The operation of a test (10) or a skip (11).
 fn jump(kind: u64, target: usize) -> u64
     requires { kind ≤ 11 }
-    ensures { result ≡ jumpWord kind target }
+    ensures { result ≡ jump_word kind target }
 {
     if 4096 < target {
         return 0;
@@ -45,7 +45,7 @@ pub fn aim(table: &mut [u64], n: usize, kind: u64, target: usize)
 
 // The operation of a binary word.
 pub fn binary(kind: usize) -> u64
-    ensures { result ≡ binaryKind kind }
+    ensures { result ≡ binary_kind kind }
 {
     match kind {
         16 => 5,
@@ -89,7 +89,7 @@ fn bit(process: u64) -> u64
 
 // The word of a signal with the bit of a process, which is above all bits of it so far.
 fn with_bit(word: u64, process: u64) -> u64
-    ensures { result ≡ withBit word process }
+    ensures { result ≡ with_bit word process }
 {
     let b = bit(process);
     if word < b {

@@ -13,33 +13,33 @@ use Rattle.laws.proofs.Ranges.{Ranged, ranged, below, inside, above, within-belo
 use Rattle.words.specs.Token.{Token, Chain, NOT, OPEN, CLOSE, chain}
 use Rattle.syntax.specs.Tree.{Design, expression, alone, joined, chained, enough, more, plain, negated, named, constant, bracketed}
 use Rattle.syntax.proofs.Machine.{Values, Step, weights}
-use Rattle.syntax.proofs.Rows.{Place, inBrackets, Symbol, Value, next, aPrimary, aFactor, anEnd, anyOnce, anyChain, theChain, theFixed, anExpression as expressionAt, aTail as tail_at, aMore as more_at}
+use Rattle.syntax.proofs.Rows.{Place, in_brackets, Symbol, Value, next, a_primary, a_factor, an_end, any_once, any_chain, the_chain, the_fixed, an_expression as expressionAt, a_tail as tail_at, a_more as more_at}
 use Rattle.syntax.proofs.Nesting.{weight}
 use Rattle.syntax.proofs.Theorem.{run}
 use Rattle.syntax.proofs.Missing as missing
-use Rattle.names.specs.Roles.{reads, counts, factorRoles, primaryRoles}
-use Rattle.names.specs.CircuitOf.{onceOperator, chainOperator}
+use Rattle.names.specs.Roles.{reads, counts, factor_roles, primary_roles}
+use Rattle.names.specs.CircuitOf.{once_operator, chain_operator}
 use Rattle.table.specs.Instructions.{Instruction}
-use Rattle.layout.specs.TableWords.{operationWord}
-use Rattle.emission.specs.Inside.Draft.{placed, following, binaryKind, put, primaryDraft, factorDraft}
+use Rattle.layout.specs.TableWords.{operation_word}
+use Rattle.emission.specs.Inside.Draft.{placed, following, binary_kind, put, primary_draft, factor_draft}
 use Rattle.look.specs.declared.Look.{Look}
-use Rattle.look.specs.Inside.Looks.{part, name_at, look_of, tokenOfKind, tokenOfLook, onceOf, chainOf, literalOf}
+use Rattle.look.specs.Inside.Looks.{part, name_at, look_of, token_of_kind, token_of_look, once_of, chain_of, literal_of}
 use Rattle.look.proofs.Looks.{seen, seen-there}
-use Rattle.look.proofs.Numbers.{chainKind, chain-kind, misfit, once-token, chain-token, literal-token, name-seen, fixed-seen}
+use Rattle.look.proofs.Numbers.{chain_kind, chain-kind, misfit, once-token, chain-token, literal-token, name-seen, fixed-seen}
 use Rattle.ledger.specs.Inside.Standing.{Judges, Numbers}
 use Rattle.reading.specs.declared.Spot.{Spot}
-use Rattle.reading.specs.Inside.Spots.{tokensFrom, machine, verdict, drafted, past, unfit, deep, word_of, addressed}
-use Rattle.reading.specs.Inside.Reading.{What, whole, anExpression, aTail, aMore, Reads}
-use Rattle.reading.proofs.Moves.{some-moves, deep-moves, same-moves}
-use Rattle.reading.proofs.Judging.{none-judged, then-judged, token-judged, passes-judged, redrafted, put-judged, put-drafted}
+use Rattle.reading.specs.Inside.Spots.{tokens_from, machine, verdict, drafted, past, unfit, deep, word_of, addressed}
+use Rattle.reading.specs.Inside.Reading.{What, whole, an_expression, a_tail, a_more, Reads}
+use Rattle.reading.proofs.Moves.{some_moves, deep-moves, same_moves}
+use Rattle.reading.proofs.Judging.{none-judged, then_judged, token-judged, passes-judged, redrafted, put-judged, put-drafted}
 use Rattle.reading.proofs.Words.{worded}
-use Rattle.reading.proofs.Generic.{reads-stuck, to-address}
+use Rattle.reading.proofs.Generic.{reads-stuck, to_address}
 
 abbrev pub primary : What
-primary = whole aPrimary primaryRoles primaryDraft
+primary = whole a_primary primary_roles primary_draft
 
 abbrev pub factor : What
-factor = whole aFactor factorRoles factorDraft
+factor = whole a_factor factor_roles factor_draft
 
 literal-not : (k : ℕ) → (k ≡ 22 → ⊥) → (k ≡ 23 → ⊥) → within 22 23 k ≡ false
 literal-not k p q = go (ranged 22 23 k)
@@ -50,21 +50,21 @@ literal-not k p q = go (ranged 22 23 k)
     go (above t h) = t
 
 -- the operation of a name, and of a binary word
-named-operation : (i : ℕ) → 16 * i ≡ operationWord (Instruction.name i)
+named-operation : (i : ℕ) → 16 * i ≡ operation_word (Instruction.name i)
 named-operation i = omega arith
 
-once-operation : (k : ℕ) → 16 ≤ k → k < 18 → binaryKind k ≡ operationWord (Instruction.binary (onceOperator (onceOf k)))
+once-operation : (k : ℕ) → 16 ≤ k → k < 18 → binary_kind k ≡ operation_word (Instruction.binary (once_operator (once_of k)))
 once-operation k lo hi = go (k - 16) (omega arith)
   where
-    go : (j : ℕ) → k ≡ 16 + j → binaryKind k ≡ operationWord (Instruction.binary (onceOperator (onceOf k)))
+    go : (j : ℕ) → k ≡ 16 + j → binary_kind k ≡ operation_word (Instruction.binary (once_operator (once_of k)))
     go zero e = rw e
     go (suc zero) e = rw e
     go (suc (suc j)) e = absurd (omega (arith, e))
 
-chain-operation : (k : ℕ) → 18 ≤ k → k < 22 → binaryKind k ≡ operationWord (Instruction.binary (chainOperator (chainOf k)))
+chain-operation : (k : ℕ) → 18 ≤ k → k < 22 → binary_kind k ≡ operation_word (Instruction.binary (chain_operator (chain_of k)))
 chain-operation k lo hi = go (k - 18) (omega arith)
   where
-    go : (j : ℕ) → k ≡ 18 + j → binaryKind k ≡ operationWord (Instruction.binary (chainOperator (chainOf k)))
+    go : (j : ℕ) → k ≡ 18 + j → binary_kind k ≡ operation_word (Instruction.binary (chain_operator (chain_of k)))
     go zero e = rw e
     go (suc zero) e = rw e
     go (suc (suc zero)) e = rw e
@@ -72,8 +72,8 @@ chain-operation k lo hi = go (k - 18) (omega arith)
     go (suc (suc (suc (suc j)))) e = absurd (omega (arith, e))
 
 -- what a bracket does
-abbrev bracketStep : Step Value aPrimary
-bracketStep = record { push = expressionAt inBrackets ∷ []; build = λ ws. bracketed ws.0.0 }
+abbrev bracket_step : Step Value a_primary
+bracket_step = record { push = expressionAt in_brackets ∷ []; build = λ ws. bracketed ws.0.0 }
 
 module _ {s : List ℕ} {room : ℕ} {p : Spot} {l v : List ℕ} {t : Look} (h : p.at ≤ length s) (f : p.number ≡ 0) (e : t ≡ look_of s p.at) where
   -- PRIMARY
@@ -87,23 +87,23 @@ module _ {s : List ℕ} {room : ℕ} {p : Spot} {l v : List ℕ} {t : Look} (h :
         fine = λ _. f;
         ahead = omega (arith, x.after, x.some);
         inside = x.inside;
-        moves = λ c ss m u. some-moves s p f n aPrimary x record { push = []; build = λ _. named (name_at s t.start t.end) } (ap (next aPrimary) (name-seen s t k)) ss m (omega arith);
+        moves = λ c ss m u. some_moves s p f n a_primary x record { push = []; build = λ _. named (name_at s t.start t.end) } (ap (next a_primary) (name-seen s t k)) ss m (omega arith);
         judges = λ _. redrafted (token-judged x (reads (name_at s t.start t.end)) g)
-            (λ y y' o d q. ap (λ j. put (Instruction.name j) (drafted y v p.next)) (sym (r.numberIs y o)) ∙ ap (put (Instruction.name i)) q ∙ put-drafted (Instruction.name i) y' p.next v a (w ∙ ap (λ j. placed v p.next j 0) (named-operation i)));
+            (λ y y' o d q. ap (λ j. put (Instruction.name j) (drafted y v p.next)) (sym (r.number_is y o)) ∙ ap (put (Instruction.name i)) q ∙ put-drafted (Instruction.name i) y' p.next v a (w ∙ ap (λ j. placed v p.next j 0) (named-operation i)));
       }
 
   pub primary-literal : {l' v' : List ℕ} {n o : ℕ} → 22 ≤ t.kind → t.kind < 24 → Judges 0 0 s (counts 1) t.start l l'
-      → o ≡ operationWord (Instruction.literal (literalOf t.kind)) → n ≡ following p.next → v' ≡ placed v p.next o 0 → Reads primary s room p (past t n) l l' v v'
+      → o ≡ operation_word (Instruction.literal (literal_of t.kind)) → n ≡ following p.next → v' ≡ placed v p.next o 0 → Reads primary s room p (past t n) l l' v v'
   primary-literal {n = n} lo hi g i a w =
       let x = seen-there h e (λ z. omega arith) in
       record {
-        tree = constant (literalOf t.kind);
+        tree = constant (literal_of t.kind);
         fine = λ _. f;
         ahead = omega (arith, x.after, x.some);
         inside = x.inside;
-        moves = λ c ss m u. some-moves s p f n aPrimary x record { push = []; build = λ _. constant (literalOf t.kind) }
-            (ap (next aPrimary) (literal-token (part s t.start t.end) t.kind lo hi)) ss m (omega arith);
-        judges = λ _. put-judged (token-judged x (counts 1) g) (Instruction.literal (literalOf t.kind)) a (w ∙ ap (λ j. placed v p.next j 0) i);
+        moves = λ c ss m u. some_moves s p f n a_primary x record { push = []; build = λ _. constant (literal_of t.kind) }
+            (ap (next a_primary) (literal-token (part s t.start t.end) t.kind lo hi)) ss m (omega arith);
+        judges = λ _. put-judged (token-judged x (counts 1) g) (Instruction.literal (literal_of t.kind)) a (w ∙ ap (λ j. placed v p.next j 0) i);
       }
 
   pub primary-none : {l' v' : List ℕ} (n : ℕ) → (t.kind ≡ 108 → ⊥) → (t.kind ≡ 22 → ⊥) → (t.kind ≡ 23 → ⊥) → (t.kind ≡ 110 → ⊥) → Reads primary s room p (unfit t n) l l' v v'
@@ -117,13 +117,13 @@ module _ {s : List ℕ} {room : ℕ} {p : Spot} {l v : List ℕ} {t : Look} (h :
         fine = λ _. f;
         ahead = x.after;
         inside = omega (arith, x.some, x.inside);
-        moves = λ c ss m u. deep-moves s p f n aPrimary x bracketStep (ap (next aPrimary) (fixed-seen s t OPEN k)) ss ss m (λ us. m (named [], us)) (λ (g : 1 + weights weight ss ≤ 32). omega arith);
+        moves = λ c ss m u. deep-moves s p f n a_primary x bracket_step (ap (next a_primary) (fixed-seen s t OPEN k)) ss ss m (λ us. m (named [], us)) (λ (g : 1 + weights weight ss ≤ 32). omega arith);
         judges = λ z. absurd (omega (arith, z));
       }
 
-  pub primary-bracket : {q r : Spot} {l' v' : List ℕ} → t.kind ≡ 110 → (room ≡ 0 → ⊥) → Reads anExpression s (room - 1) (past t p.next) q l l' v v' → r ≡ word_of s q 111
+  pub primary_bracket : {q r : Spot} {l' v' : List ℕ} → t.kind ≡ 110 → (room ≡ 0 → ⊥) → Reads an_expression s (room - 1) (past t p.next) q l l' v v' → r ≡ word_of s q 111
       → Reads primary s room p r l l' v v'
-  primary-bracket {q} k z d e2 =
+  primary_bracket {q} k z d e2 =
       let x = seen-there h e (λ z. omega arith) in
       let w = worded CLOSE d.inside e2 in
       record {
@@ -131,10 +131,10 @@ module _ {s : List ℕ} {room : ℕ} {p : Spot} {l v : List ℕ} {t : Look} (h :
         fine = λ _. f;
         ahead = omega (arith, x.after, x.some, d.ahead, w.ahead);
         inside = w.inside;
-        moves = λ c ss m u. some-moves s p f p.next aPrimary x bracketStep (ap (next aPrimary) (fixed-seen s t OPEN k)) ss m (omega arith)
-            ∙ d.moves inBrackets ss _ (omega arith)
-            ∙ w.moves (anEnd inBrackets) record { push = []; build = λ _. tt } refl (λ _ small o. rw (ne_eqb _ 111 o)) ss _ (omega arith);
-        judges = λ g. then-judged (passes-judged x) (then-judged (d.judges (w.fine g)) (w.judges g));
+        moves = λ c ss m u. some_moves s p f p.next a_primary x bracket_step (ap (next a_primary) (fixed-seen s t OPEN k)) ss m (omega arith)
+            ∙ d.moves in_brackets ss _ (omega arith)
+            ∙ w.moves (an_end in_brackets) record { push = []; build = λ _. tt } refl (λ _ small o. rw (ne_eqb _ 111 o)) ss _ (omega arith);
+        judges = λ g. then_judged (passes-judged x) (then_judged (d.judges (w.fine g)) (w.judges g));
       }
 
   -- FACTOR
@@ -146,8 +146,8 @@ module _ {s : List ℕ} {room : ℕ} {p : Spot} {l v : List ℕ} {t : Look} (h :
         fine = d.fine;
         ahead = d.ahead;
         inside = d.inside;
-        moves = λ c ss m u. same-moves s p f 0 aFactor (seen h e) aPrimary ss ss m (λ vs. m (plain vs.0, vs.1))
-            (λ small ts. missing.factor-plain (tokenOfLook s t) ts ss (misfit (part s t.start t.end) t.kind small (theFixed NOT) (ne_eqb t.kind 15 k)) m)
+        moves = λ c ss m u. same_moves s p f 0 a_factor (seen h e) a_primary ss ss m (λ vs. m (plain vs.0, vs.1))
+            (λ small ts. missing.factor-plain (token_of_look s t) ts ss (misfit (part s t.start t.end) t.kind small (the_fixed NOT) (ne_eqb t.kind 15 k)) m)
             ∙ d.moves c ss (λ vs. m (plain vs.0, vs.1)) (omega arith);
         judges = d.judges;
       }
@@ -161,104 +161,104 @@ module _ {s : List ℕ} {room : ℕ} {p : Spot} {l v : List ℕ} {t : Look} (h :
         fine = λ _. f;
         ahead = omega (arith, x.after, x.some, d.ahead);
         inside = d.inside;
-        moves = λ c ss o u. some-moves s p f p.next aFactor x record { push = aPrimary ∷ []; build = λ ws. negated ws.0 } (ap (next aFactor) (fixed-seen s t NOT k)) ss o (omega arith)
-            ∙ d.moves c ss _ (omega arith) ∙ to-address s q m ss _;
-        judges = λ z. put-judged (then-judged (token-judged x (counts 1) g) (d.judges z)) Instruction.negation a w;
+        moves = λ c ss o u. some_moves s p f p.next a_factor x record { push = a_primary ∷ []; build = λ ws. negated ws.0 } (ap (next a_factor) (fixed-seen s t NOT k)) ss o (omega arith)
+            ∙ d.moves c ss _ (omega arith) ∙ to_address s q m ss _;
+        judges = λ z. put-judged (then_judged (token-judged x (counts 1) g) (d.judges z)) Instruction.negation a w;
       }
 
 -- EXPRESSION
 
 first_run : (ts : List Token) (c : Place) (ss : List Symbol) (k : Values Value (expressionAt c ∷ ss) → Design)
-    → run ts (expressionAt c ∷ ss) k ≡ run ts (aFactor ∷ tail_at c ∷ ss) (λ vs. k ((expression vs.0 vs.1.0.0, vs.1.0.1), vs.1.1))
+    → run ts (expressionAt c ∷ ss) k ≡ run ts (a_factor ∷ tail_at c ∷ ss) (λ vs. k ((expression vs.0 vs.1.0.0, vs.1.0.1), vs.1.1))
 first_run [] c ss k = refl
-first_run (t ∷ ts) c ss k = missing.expression-first t ts ss c k
+first_run (t ∷ ts) c ss k = missing.expression_first t ts ss c k
 
-first-moves : (s : List ℕ) (p : Spot) (c : Place) (ss : List Symbol) (k : Values Value (expressionAt c ∷ ss) → Design)
-    → verdict s p (expressionAt c ∷ ss) k ≡ verdict s p (aFactor ∷ tail_at c ∷ ss) (λ vs. k ((expression vs.0 vs.1.0.0, vs.1.0.1), vs.1.1))
+first_moves : (s : List ℕ) (p : Spot) (c : Place) (ss : List Symbol) (k : Values Value (expressionAt c ∷ ss) → Design)
+    → verdict s p (expressionAt c ∷ ss) k ≡ verdict s p (a_factor ∷ tail_at c ∷ ss) (λ vs. k ((expression vs.0 vs.1.0.0, vs.1.0.1), vs.1.1))
 unfolding verdict machine
-first-moves s p c ss k = rw (first_run (map (λ p. p.token) (tokensFrom s p.at)) c ss k)
+first_moves s p c ss k = rw (first_run (map (λ p. p.token) (tokens_from s p.at)) c ss k)
 
-pub expression-then : {s : List ℕ} {room : ℕ} {p q r : Spot} {l l1 l2 v v1 v2 : List ℕ} → Reads factor s room p q l l1 v v1 → Reads aTail s room q r l1 l2 v1 v2 → Reads anExpression s room p r l l2 v v2
-expression-then {s} {room} {p} a b =
+pub expression_then : {s : List ℕ} {room : ℕ} {p q r : Spot} {l l1 l2 v v1 v2 : List ℕ} → Reads factor s room p q l l1 v v1 → Reads a_tail s room q r l1 l2 v1 v2 → Reads an_expression s room p r l l2 v v2
+expression_then {s} {room} {p} a b =
     record {
       tree = expression a.tree b.tree;
       fine = λ z. a.fine (b.fine z);
       ahead = omega (arith, a.ahead, b.ahead);
       inside = b.inside;
-      moves = λ c ss k u. first-moves s p c ss k ∙ a.moves tt (tail_at c ∷ ss) _ (omega arith) ∙ b.moves c ss _ (omega arith);
-      judges = λ z. then-judged (a.judges (b.fine z)) (b.judges z);
+      moves = λ c ss k u. first_moves s p c ss k ∙ a.moves tt (tail_at c ∷ ss) _ (omega arith) ∙ b.moves c ss _ (omega arith);
+      judges = λ z. then_judged (a.judges (b.fine z)) (b.judges z);
     }
 
 -- TAIL AND CHAIN
 
 module _ {s : List ℕ} {room : ℕ} {p : Spot} {l v : List ℕ} {t : Look} (h : p.at ≤ length s) (f : p.number ≡ 0) (e : t ≡ look_of s p.at) where
-  tail_none : (within 16 17 t.kind ≡ false) → (within 18 21 t.kind ≡ false) → Reads aTail s room p p l l v v
+  tail_none : (within 16 17 t.kind ≡ false) → (within 18 21 t.kind ≡ false) → Reads a_tail s room p p l l v v
   tail_none a b =
       record {
         tree = alone;
         fine = λ z. z;
         ahead = omega arith;
         inside = h;
-        moves = λ c ss k u. same-moves s p f 0 (tail_at c) (seen h e) (anEnd c) ss ss k (λ vs. k ((alone, vs.0), vs.1))
-            (λ small ts. missing.tail-alone (tokenOfLook s t) ts ss c (misfit (part s t.start t.end) t.kind small anyOnce a) (misfit (part s t.start t.end) t.kind small anyChain b) k);
+        moves = λ c ss k u. same_moves s p f 0 (tail_at c) (seen h e) (an_end c) ss ss k (λ vs. k ((alone, vs.0), vs.1))
+            (λ small ts. missing.tail-alone (token_of_look s t) ts ss c (misfit (part s t.start t.end) t.kind small any_once a) (misfit (part s t.start t.end) t.kind small any_chain b) k);
         judges = λ z. none-judged;
       }
 
-  pub tail-low : t.kind < 16 → Reads aTail s room p p l l v v
+  pub tail-low : t.kind < 16 → Reads a_tail s room p p l l v v
   tail-low a = tail_none (within-below 16 17 t.kind a) (within-below 18 21 t.kind (omega arith))
 
-  pub tail-high : 22 ≤ t.kind → Reads aTail s room p p l l v v
+  pub tail-high : 22 ≤ t.kind → Reads a_tail s room p p l l v v
   tail-high a = tail_none (within-above 16 17 t.kind (omega arith)) (within-above 18 21 t.kind a)
 
   pub tail-once : {m o : ℕ} {q : Spot} {l1 l2 v1 v2 : List ℕ} → 16 ≤ t.kind → t.kind < 18 → Judges 0 0 s (counts 1) t.start l l1 → Reads factor s room (past t p.next) q l1 l2 v v1
-      → m ≡ following q.next → o ≡ binaryKind t.kind → v2 ≡ placed v1 q.next o 0 → Reads aTail s room p (addressed q m) l l2 v v2
+      → m ≡ following q.next → o ≡ binary_kind t.kind → v2 ≡ placed v1 q.next o 0 → Reads a_tail s room p (addressed q m) l l2 v v2
   tail-once {m} {q = q} {v1 = v1} lo hi g d a i w =
       let x = seen-there h e (λ z. omega arith) in
       record {
-        tree = joined (onceOf t.kind) d.tree;
+        tree = joined (once_of t.kind) d.tree;
         fine = λ _. f;
         ahead = omega (arith, x.after, x.some, d.ahead);
         inside = d.inside;
-        moves = λ c ss k u. some-moves s p f p.next (tail_at c) x record { push = aFactor ∷ anEnd c ∷ []; build = λ ws. (joined (onceOf t.kind) ws.0, ws.1.0) }
+        moves = λ c ss k u. some_moves s p f p.next (tail_at c) x record { push = a_factor ∷ an_end c ∷ []; build = λ ws. (joined (once_of t.kind) ws.0, ws.1.0) }
             (ap (next (tail_at c)) (once-token (part s t.start t.end) t.kind lo hi)) ss k (omega arith)
-            ∙ d.moves tt (anEnd c ∷ ss) _ (omega arith) ∙ to-address s q m (anEnd c ∷ ss) _;
-        judges = λ z. put-judged (then-judged (token-judged x (counts 1) g) (d.judges z)) (Instruction.binary (onceOperator (onceOf t.kind))) a
+            ∙ d.moves tt (an_end c ∷ ss) _ (omega arith) ∙ to_address s q m (an_end c ∷ ss) _;
+        judges = λ z. put-judged (then_judged (token-judged x (counts 1) g) (d.judges z)) (Instruction.binary (once_operator (once_of t.kind))) a
             (w ∙ ap (λ j. placed v1 q.next j 0) (i ∙ once-operation t.kind lo hi));
       }
 
   pub tail-chain : {m o : ℕ} {q r : Spot} {l1 l2 l3 v1 v2 v3 : List ℕ} → 18 ≤ t.kind → t.kind < 22 → Judges 0 0 s (counts 1) t.start l l1 → Reads factor s room (past t p.next) q l1 l2 v v1
-      → m ≡ following q.next → o ≡ binaryKind t.kind → v2 ≡ placed v1 q.next o 0
-      → Reads (aMore (chainOf t.kind)) s room (addressed q m) r l2 l3 v2 v3 → Reads aTail s room p r l l3 v v3
+      → m ≡ following q.next → o ≡ binary_kind t.kind → v2 ≡ placed v1 q.next o 0
+      → Reads (a_more (chain_of t.kind)) s room (addressed q m) r l2 l3 v2 v3 → Reads a_tail s room p r l l3 v v3
   tail-chain {m} {q = q} {v1 = v1} lo hi g d a i w b =
       let x = seen-there h e (λ z. omega arith) in
       record {
-        tree = chained (chainOf t.kind) d.tree b.tree;
+        tree = chained (chain_of t.kind) d.tree b.tree;
         fine = λ _. f;
         ahead = omega (arith, x.after, x.some, d.ahead, b.ahead);
         inside = b.inside;
-        moves = λ c ss k u. some-moves s p f p.next (tail_at c) x record { push = aFactor ∷ more_at (chainOf t.kind) c ∷ []; build = λ ws. (chained (chainOf t.kind) ws.0 ws.1.0.0, ws.1.0.1) }
+        moves = λ c ss k u. some_moves s p f p.next (tail_at c) x record { push = a_factor ∷ more_at (chain_of t.kind) c ∷ []; build = λ ws. (chained (chain_of t.kind) ws.0 ws.1.0.0, ws.1.0.1) }
             (ap (next (tail_at c)) (chain-token (part s t.start t.end) t.kind lo hi)) ss k (omega arith)
-            ∙ d.moves tt (more_at (chainOf t.kind) c ∷ ss) _ (omega arith) ∙ to-address s q m (more_at (chainOf t.kind) c ∷ ss) _ ∙ b.moves c ss _ (omega arith);
-        judges = λ z. then-judged (put-judged (then-judged (token-judged x (counts 1) g) (d.judges (b.fine z))) (Instruction.binary (chainOperator (chainOf t.kind))) a
+            ∙ d.moves tt (more_at (chain_of t.kind) c ∷ ss) _ (omega arith) ∙ to_address s q m (more_at (chain_of t.kind) c ∷ ss) _ ∙ b.moves c ss _ (omega arith);
+        judges = λ z. then_judged (put-judged (then_judged (token-judged x (counts 1) g) (d.judges (b.fine z))) (Instruction.binary (chain_operator (chain_of t.kind))) a
             (w ∙ ap (λ j. placed v1 q.next j 0) (i ∙ chain-operation t.kind lo hi))) (b.judges z);
       }
 
   module _ {d : ℕ} (lo : 18 ≤ d) (hi : d < 22) where
-    pub chain-none : (t.kind ≡ d → ⊥) → Reads (aMore (chainOf d)) s room p p l l v v
+    pub chain-none : (t.kind ≡ d → ⊥) → Reads (a_more (chain_of d)) s room p p l l v v
     chain-none a =
         record {
           tree = enough;
           fine = λ z. z;
           ahead = omega arith;
           inside = h;
-          moves = λ c ss k u. same-moves s p f 0 (more_at (chainOf d) c) (seen h e) (anEnd c) ss ss k (λ vs. k ((enough, vs.0), vs.1))
-              (λ small ts. missing.more-enough (tokenOfLook s t) ts ss (chainOf d) c (misfit (part s t.start t.end) t.kind small (theChain (chainOf d)) (ne_eqb t.kind (chainKind (chainOf d)) (λ z. a (z ∙ chain-kind d lo hi)))) k);
+          moves = λ c ss k u. same_moves s p f 0 (more_at (chain_of d) c) (seen h e) (an_end c) ss ss k (λ vs. k ((enough, vs.0), vs.1))
+              (λ small ts. missing.more_enough (token_of_look s t) ts ss (chain_of d) c (misfit (part s t.start t.end) t.kind small (the_chain (chain_of d)) (ne_eqb t.kind (chain_kind (chain_of d)) (λ z. a (z ∙ chain-kind d lo hi)))) k);
           judges = λ z. none-judged;
         }
 
     pub chain_more : {m o : ℕ} {q r : Spot} {l1 l2 l3 v1 v2 v3 : List ℕ} → t.kind ≡ d → Judges 0 0 s (counts 1) t.start l l1 → Reads factor s room (past t p.next) q l1 l2 v v1
-        → m ≡ following q.next → o ≡ binaryKind d → v2 ≡ placed v1 q.next o 0
-        → Reads (aMore (chainOf d)) s room (addressed q m) r l2 l3 v2 v3 → Reads (aMore (chainOf d)) s room p r l l3 v v3
+        → m ≡ following q.next → o ≡ binary_kind d → v2 ≡ placed v1 q.next o 0
+        → Reads (a_more (chain_of d)) s room (addressed q m) r l2 l3 v2 v3 → Reads (a_more (chain_of d)) s room p r l l3 v v3
     chain_more {m} {q = q} {v1 = v1} k g b1 a i w b =
         let x = seen-there h e (λ z. omega arith) in
         record {
@@ -266,18 +266,18 @@ module _ {s : List ℕ} {room : ℕ} {p : Spot} {l v : List ℕ} {t : Look} (h :
           fine = λ _. f;
           ahead = omega (arith, x.after, x.some, b1.ahead, b.ahead);
           inside = b.inside;
-          moves = λ c ss j u. some-moves s p f p.next (more_at (chainOf d) c) x record { push = aFactor ∷ more_at (chainOf d) c ∷ []; build = λ ws. (more ws.0 ws.1.0.0, ws.1.0.1) }
-              (more-next c) ss j (omega arith)
-              ∙ b1.moves tt (more_at (chainOf d) c ∷ ss) _ (omega arith) ∙ to-address s q m (more_at (chainOf d) c ∷ ss) _ ∙ b.moves c ss _ (omega arith);
-          judges = λ z. then-judged (put-judged (then-judged (token-judged x (counts 1) g) (b1.judges (b.fine z))) (Instruction.binary (chainOperator (chainOf d))) a
+          moves = λ c ss j u. some_moves s p f p.next (more_at (chain_of d) c) x record { push = a_factor ∷ more_at (chain_of d) c ∷ []; build = λ ws. (more ws.0 ws.1.0.0, ws.1.0.1) }
+              (more_next c) ss j (omega arith)
+              ∙ b1.moves tt (more_at (chain_of d) c ∷ ss) _ (omega arith) ∙ to_address s q m (more_at (chain_of d) c ∷ ss) _ ∙ b.moves c ss _ (omega arith);
+          judges = λ z. then_judged (put-judged (then_judged (token-judged x (counts 1) g) (b1.judges (b.fine z))) (Instruction.binary (chain_operator (chain_of d))) a
               (w ∙ ap (λ j. placed v1 q.next j 0) (i ∙ chain-operation d lo hi))) (b.judges z);
         }
       where
-        same : (b : Chain) (c : Place) → next (more_at b c) (chain b) ≡ some record { push = aFactor ∷ more_at b c ∷ []; build = λ ws. (more ws.0 ws.1.0.0, ws.1.0.1) }
+        same : (b : Chain) (c : Place) → next (more_at b c) (chain b) ≡ some record { push = a_factor ∷ more_at b c ∷ []; build = λ ws. (more ws.0 ws.1.0.0, ws.1.0.1) }
         same Chain.AND c = refl
         same Chain.OR c = refl
         same Chain.XOR c = refl
         same Chain.XNOR c = refl
 
-        more-next : (c : Place) → next (more_at (chainOf d) c) (tokenOfLook s t) ≡ some record { push = aFactor ∷ more_at (chainOf d) c ∷ []; build = λ ws. (more ws.0 ws.1.0.0, ws.1.0.1) }
-        more-next c = ap (next (more_at (chainOf d) c)) (ap (tokenOfKind (part s t.start t.end)) k ∙ chain-token (part s t.start t.end) d lo hi) ∙ same (chainOf d) c
+        more_next : (c : Place) → next (more_at (chain_of d) c) (token_of_look s t) ≡ some record { push = a_factor ∷ more_at (chain_of d) c ∷ []; build = λ ws. (more ws.0 ws.1.0.0, ws.1.0.1) }
+        more_next c = ap (next (more_at (chain_of d) c)) (ap (token_of_kind (part s t.start t.end)) k ∙ chain-token (part s t.start t.end) d lo hi) ∙ same (chain_of d) c

@@ -1,13 +1,13 @@
 // Expressions. Expression, factor and primary call each other in a cycle; the nesting room falls with each bracket.
 ghost use Rattle.std.specs.Prelude.{ℕ, ◌≤◌, ◌<◌, ◌≡◌, List, length};
-ghost use Rattle.syntax.proofs.Rows.{aPrimary, aFactor};
-ghost use Rattle.names.specs.Roles.{primaryRoles, factorRoles};
-ghost use Rattle.emission.specs.Inside.Draft.{primaryDraft, factorDraft};
+ghost use Rattle.syntax.proofs.Rows.{a_primary, a_factor};
+ghost use Rattle.names.specs.Roles.{primary_roles, factor_roles};
+ghost use Rattle.emission.specs.Inside.Draft.{primary_draft, factor_draft};
 ghost use Rattle.table.specs.Instructions.{Instruction};
-ghost use Rattle.layout.specs.TableWords.{operationWord};
-ghost use Rattle.look.specs.Inside.Looks.{look_of, chainOf, literalOf};
+ghost use Rattle.layout.specs.TableWords.{operation_word};
+ghost use Rattle.look.specs.Inside.Looks.{look_of, chain_of, literal_of};
 ghost use Rattle.ledger.specs.Inside.Standing.{Held};
-ghost use Rattle.reading.specs.Inside.Reading.{Ready, Reads, whole, anExpression, aTail, aMore};
+ghost use Rattle.reading.specs.Inside.Reading.{Ready, Reads, whole, an_expression, a_tail, a_more};
 
 use emission::{binary, emit};
 use ledger::{count, read_signal};
@@ -17,7 +17,7 @@ use reading::{Spot, word};
 // A name, which is the next token.
 fn signal(text: &[u8], ledger: &mut [u64; 328], table: &mut [u64], p: Spot, t: Look) -> Spot
     requires { Ready 0 text.now p ledger.old × (p.number ≡ 0) × (t ≡ look_of text.now p.at) × (t.kind ≡ 108) }
-    ensures { (room : ℕ) → Reads (whole aPrimary primaryRoles primaryDraft) text.now room p result ledger.old ledger.new table.old table.new }
+    ensures { (room : ℕ) → Reads (whole a_primary primary_roles primary_draft) text.now room p result ledger.old ledger.new table.old table.new }
 {
     let k = read_signal(text, ledger, t.start, t.end);
     let n = emit(table, p.next, (16 * k) as u64, 0);
@@ -30,8 +30,8 @@ fn signal(text: &[u8], ledger: &mut [u64; 328], table: &mut [u64], p: Spot, t: L
 
 // A literal, which is the next token, by its operation.
 fn literal(ledger: &mut [u64; 328], table: &mut [u64], p: Spot, t: Look, operation: u64) -> Spot
-    requires { Held 0 ledger.old × (p.number ≡ 0) × (22 ≤ t.kind) × (t.kind < 24) × (operation ≡ operationWord (Instruction.literal (literalOf t.kind))) }
-    ensures { (text : List ℕ) (room : ℕ) → p.at ≤ length text → t ≡ look_of text p.at → Reads (whole aPrimary primaryRoles primaryDraft) text room p result ledger.old ledger.new table.old table.new }
+    requires { Held 0 ledger.old × (p.number ≡ 0) × (22 ≤ t.kind) × (t.kind < 24) × (operation ≡ operation_word (Instruction.literal (literal_of t.kind))) }
+    ensures { (text : List ℕ) (room : ℕ) → p.at ≤ length text → t ≡ look_of text p.at → Reads (whole a_primary primary_roles primary_draft) text room p result ledger.old ledger.new table.old table.new }
 {
     count(ledger, 1, t.start);
     let n = emit(table, p.next, operation, 0);
@@ -52,7 +52,7 @@ pub fn primary(
     room: usize,
 ) -> Spot
     requires { Ready 0 text.now p ledger.old }
-    ensures { Reads (whole aPrimary primaryRoles primaryDraft) text.now room p result ledger.old ledger.new table.old table.new }
+    ensures { Reads (whole a_primary primary_roles primary_draft) text.now room p result ledger.old ledger.new table.old table.new }
 {
     if p.number != 0 {
         return p;
@@ -93,7 +93,7 @@ pub fn primary(
 #[cycle(chain_expression_factor_primary_tail)]
 pub fn factor(text: &[u8], ledger: &mut [u64; 328], table: &mut [u64], p: Spot, room: usize) -> Spot
     requires { Ready 0 text.now p ledger.old }
-    ensures { Reads (whole aFactor factorRoles factorDraft) text.now room p result ledger.old ledger.new table.old table.new }
+    ensures { Reads (whole a_factor factor_roles factor_draft) text.now room p result ledger.old ledger.new table.old table.new }
 {
     if p.number != 0 {
         return p;
@@ -126,7 +126,7 @@ pub fn expression(
     room: usize,
 ) -> Spot
     requires { Ready 0 text.now p ledger.old }
-    ensures { Reads anExpression text.now room p result ledger.old ledger.new table.old table.new }
+    ensures { Reads an_expression text.now room p result ledger.old ledger.new table.old table.new }
 {
     let q = factor(text, ledger, table, p, room);
     tail(text, ledger, table, q, room)
@@ -136,7 +136,7 @@ pub fn expression(
 #[cycle(chain_expression_factor_primary_tail)]
 pub fn tail(text: &[u8], ledger: &mut [u64; 328], table: &mut [u64], p: Spot, room: usize) -> Spot
     requires { Ready 0 text.now p ledger.old }
-    ensures { Reads aTail text.now room p result ledger.old ledger.new table.old table.new }
+    ensures { Reads a_tail text.now room p result ledger.old ledger.new table.old table.new }
 {
     if p.number != 0 {
         return p;
@@ -178,7 +178,7 @@ pub fn chain(
     kind: usize,
 ) -> Spot
     requires { Ready 0 text.now first ledger.old × (18 ≤ kind) × (kind < 22) }
-    ensures { Reads (aMore (chainOf kind)) text.now room first result ledger.old ledger.new table.old table.new }
+    ensures { Reads (a_more (chain_of kind)) text.now room first result ledger.old ledger.new table.old table.new }
 {
     let mut p = first;
     while p.number == 0 {

@@ -9,16 +9,16 @@ use Rattle.syntax.specs.Circuit.{AND, OR, NAND, NOR, XOR, XNOR}
 use Rattle.table.specs.Instructions.{Instruction, name, literal, negation, binary, takes, leaves}
 use Rattle.table.specs.Translation.{number}
 use Rattle.table.specs.Fit.{Leads, Ahead, Exists}
-use Rattle.layout.specs.TableWords.{operationWord, delayWord}
+use Rattle.layout.specs.TableWords.{operation_word, delay_word}
 use Rattle.layout.proofs.Columns.{truth}
 use Rattle.layout.proofs.Decoded.{number-truth}
-use Rattle.layout.proofs.InstructionWords.{kinds, instructionOf}
-use Rattle.fitness.specs.Inside.Kinds.{takesOf, leavesOf, Follows, next, jump, Forward, aboutBelow, delayBelow, Legal}
+use Rattle.layout.proofs.InstructionWords.{kinds, instruction_of}
+use Rattle.fitness.specs.Inside.Kinds.{takes_of, leaves_of, Follows, next, jump, Forward, about_below, delay_below, Legal}
 use Rattle.fitness.specs.Inside.Drivers.{Posts}
 
 pub record Kind (kind about : ℕ) (i : Instruction) : Type 0 where
-  pub taken : takes i ≡ takesOf kind
-  pub left : leaves i ≡ leavesOf kind
+  pub taken : takes i ≡ takes_of kind
+  pub left : leaves i ≡ leaves_of kind
   pub leads : (x y : ℕ) → Follows kind about x y → Leads i x y
   pub follows : (x y : ℕ) → Leads i x y → Follows kind about x y
   pub ahead : (end x : ℕ) → Forward end x kind about → Ahead end x i
@@ -31,7 +31,7 @@ goes_on kind about x y l (next n e) = omega arith
 goes_on kind about x y l (jump n e) = absurd (omega arith)
 
 -- an instruction that goes on and posts nothing
-plain : (kind about : ℕ) (i : Instruction) → kind < 9 → takes i ≡ takesOf kind → leaves i ≡ leavesOf kind
+plain : (kind about : ℕ) (i : Instruction) → kind < 9 → takes i ≡ takes_of kind → leaves i ≡ leaves_of kind
     → ((x y : ℕ) → y ≡ suc x → Leads i x y) → ((x y : ℕ) → Leads i x y → y ≡ suc x) → ((end x : ℕ) → Ahead end x i) → ((k : ℕ) → Posts i k → ⊥)
     → Kind kind about i
 plain kind about i l t g to from a n =
@@ -62,9 +62,9 @@ twelve P a0 a1 a2 a3 a4 a5 a6 a7 a8 a9 a10 a11 (suc (suc (suc (suc (suc (suc (su
 twelve P a0 a1 a2 a3 a4 a5 a6 a7 a8 a9 a10 a11 (suc (suc (suc (suc (suc (suc (suc (suc (suc (suc (suc zero))))))))))) l = a11
 twelve P a0 a1 a2 a3 a4 a5 a6 a7 a8 a9 a10 a11 (suc (suc (suc (suc (suc (suc (suc (suc (suc (suc (suc (suc kind)))))))))))) l = absurd (omega arith)
 
-kind-is : (kind about delay : ℕ) → kind < 12 → Kind kind about (get_or (kinds about delay) kind negation)
-unfolding takesOf leavesOf
-kind-is kind about delay l =
+kind_is : (kind about delay : ℕ) → kind < 12 → Kind kind about (get_or (kinds about delay) kind negation)
+unfolding takes_of leaves_of
+kind_is kind about delay l =
     twelve (λ k. Kind k about (get_or (kinds about delay) k negation))
     (plain 0 about (name about) (omega arith) refl refl (λ x y e. e) (λ x y e. e) (λ e x. tt) (λ k p. p))
     (plain 1 about (literal (truth about)) (omega arith) refl refl (λ x y e. e) (λ x y e. e) (λ e x. tt) (λ k p. p))
@@ -115,17 +115,17 @@ kind-is kind about delay l =
     jumps about x y (next n e) = absurd (n refl)
     jumps about x y (jump n e) = e
 
-pub kind-of : (signals operation delay : ℕ) → Legal signals operation delay → Kind (operation % 16) (operation / 16) (instructionOf operation delay)
-unfolding instructionOf
-kind-of signals operation delay l = kind-is (operation % 16) (operation / 16) delay l.exists
+pub kind_of_lem : (signals operation delay : ℕ) → Legal signals operation delay → Kind (operation % 16) (operation / 16) (instruction_of operation delay)
+unfolding instruction_of
+kind_of_lem signals operation delay l = kind_is (operation % 16) (operation / 16) delay l.exists
 
 -- a kind that is about no signal
-pub about-else : (kind signals : ℕ) → kind < 12 → (kind ≡ 0 → ⊥) → (kind ≡ 9 → ⊥)
-    → get_or (0 ∷ 2 ∷ 1 ∷ 1 ∷ 1 ∷ 1 ∷ 1 ∷ 1 ∷ 1 ∷ 0 ∷ 4097 ∷ 4097 ∷ []) kind 0 ≡ aboutBelow signals kind
-unfolding aboutBelow
-about-else kind signals l =
+pub about_else : (kind signals : ℕ) → kind < 12 → (kind ≡ 0 → ⊥) → (kind ≡ 9 → ⊥)
+    → get_or (0 ∷ 2 ∷ 1 ∷ 1 ∷ 1 ∷ 1 ∷ 1 ∷ 1 ∷ 1 ∷ 0 ∷ 4097 ∷ 4097 ∷ []) kind 0 ≡ about_below signals kind
+unfolding about_below
+about_else kind signals l =
     twelve
-    (λ k. (k ≡ 0 → ⊥) → (k ≡ 9 → ⊥) → get_or (0 ∷ 2 ∷ 1 ∷ 1 ∷ 1 ∷ 1 ∷ 1 ∷ 1 ∷ 1 ∷ 0 ∷ 4097 ∷ 4097 ∷ []) k 0 ≡ aboutBelow signals k)
+    (λ k. (k ≡ 0 → ⊥) → (k ≡ 9 → ⊥) → get_or (0 ∷ 2 ∷ 1 ∷ 1 ∷ 1 ∷ 1 ∷ 1 ∷ 1 ∷ 1 ∷ 0 ∷ 4097 ∷ 4097 ∷ []) k 0 ≡ about_below signals k)
     (λ z n. absurd (z refl))
     (λ z n. refl)
     (λ z n. refl)
@@ -143,14 +143,14 @@ about-else kind signals l =
 -- WORDS
 
 record Words (kind about delay : ℕ) (i : Instruction) : Type 0 where
-  operation : operationWord i ≡ kind + 16 * about
-  late : delayWord i ≡ delay
+  operation : operation_word i ≡ kind + 16 * about
+  late : delay_word i ≡ delay
 
-words_are : (kind about delay signals : ℕ) → kind < 12 → about < aboutBelow signals kind → delay < delayBelow kind
+words_are : (kind about delay signals : ℕ) → kind < 12 → about < about_below signals kind → delay < delay_below kind
     → Words kind about delay (get_or (kinds about delay) kind negation)
-unfolding aboutBelow delayBelow
+unfolding about_below delay_below
 words_are kind about delay signals l =
-    twelve (λ k. about < aboutBelow signals k → delay < delayBelow k → Words k about delay (get_or (kinds about delay) k negation))
+    twelve (λ k. about < about_below signals k → delay < delay_below k → Words k about delay (get_or (kinds about delay) k negation))
     (λ a d. record { operation = omega arith; late = omega arith })
     (λ a d. record { operation = ap (λ b. 1 + 16 * b) (number-truth about (omega arith)); late = omega arith })
     (λ a d. record { operation = omega arith; late = omega arith })
@@ -167,17 +167,17 @@ words_are kind about delay signals l =
 
 -- legal words are those of the instruction that they are read as
 pub legal-words : (signals operation delay : ℕ) → Legal signals operation delay
-    → (operationWord (instructionOf operation delay) ≡ operation) × (delayWord (instructionOf operation delay) ≡ delay)
-unfolding instructionOf
+    → (operation_word (instruction_of operation delay) ≡ operation) × (delay_word (instruction_of operation delay) ≡ delay)
+unfolding instruction_of
 legal-words signals operation delay l =
     let q = words_are (operation % 16) (operation / 16) delay signals l.exists l.about l.short in
     (q.operation ∙ omega arith, q.late)
 
-exists-is : (kind about delay signals : ℕ) → kind < 12 → about < aboutBelow signals kind → delay < delayBelow kind
+exists_is : (kind about delay signals : ℕ) → kind < 12 → about < about_below signals kind → delay < delay_below kind
     → Exists signals (get_or (kinds about delay) kind negation)
-unfolding aboutBelow delayBelow
-exists-is kind about delay signals l =
-    twelve (λ k. about < aboutBelow signals k → delay < delayBelow k → Exists signals (get_or (kinds about delay) k negation))
+unfolding about_below delay_below
+exists_is kind about delay signals l =
+    twelve (λ k. about < about_below signals k → delay < delay_below k → Exists signals (get_or (kinds about delay) k negation))
     (λ a d. omega arith)
     (λ a d. tt)
     (λ a d. tt)
@@ -193,14 +193,14 @@ exists-is kind about delay signals l =
     kind l
 
 -- signal numbers exist, delays keep their size
-pub legal-exists : (signals operation delay : ℕ) → Legal signals operation delay → Exists signals (instructionOf operation delay)
-unfolding instructionOf
-legal-exists signals operation delay l = exists-is (operation % 16) (operation / 16) delay signals l.exists l.about l.short
+pub legal-exists : (signals operation delay : ℕ) → Legal signals operation delay → Exists signals (instruction_of operation delay)
+unfolding instruction_of
+legal-exists signals operation delay l = exists_is (operation % 16) (operation / 16) delay signals l.exists l.about l.short
 
 -- an assignment's signal is below 64
-signal-is : (kind about signals : ℕ) → kind ≡ 9 → about < aboutBelow signals kind → about < signals
-unfolding aboutBelow
-signal-is kind about signals e l = omega (arith, rw e at l)
+signal_is : (kind about signals : ℕ) → kind ≡ 9 → about < about_below signals kind → about < signals
+unfolding about_below
+signal_is kind about signals e l = omega (arith, rw e at l)
 
 pub legal-signal : (signals operation delay : ℕ) → Legal signals operation delay → operation % 16 ≡ 9 → operation / 16 < signals
-legal-signal signals operation delay l e = signal-is (operation % 16) (operation / 16) signals e l.about
+legal-signal signals operation delay l e = signal_is (operation % 16) (operation / 16) signals e l.about

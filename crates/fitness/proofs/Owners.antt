@@ -10,7 +10,7 @@ use lib.ListN.{get_or, length, drop, replicate, length-replicate, length-drop}
 use lib.Seq.{get_or-take, get_or-drop, length-take-le}
 use borrow.Author.Tests.{eqb-true, eq-eqb}
 use Rattle.laws.proofs.Cases.{same_or, some}
-use Rattle.laws.proofs.Lists.{zero-at}
+use Rattle.laws.proofs.Lists.{zero_at}
 use Rattle.laws.proofs.Deciding.{differ}
 use Rattle.table.specs.Instructions.{Instruction, name, literal, negation, binary, assignment, test, skip}
 use Rattle.table.specs.Table.{Table, begins, part, posts}
@@ -18,7 +18,7 @@ use Rattle.table.specs.Fit.{at}
 use Rattle.fitness.specs.Inside.Heights.{PutAs}
 use Rattle.fitness.specs.Inside.Parts.{Rows}
 use Rattle.fitness.specs.Inside.Drivers.{Posts, Drives, Alone, Owned}
-use Rattle.fitness.proofs.Reading.{rows-climb, row_same}
+use Rattle.fitness.proofs.Reading.{rows_climb, row_same}
 use Rattle.fitness.proofs.Kind.{Kind}
 
 -- THE PASS
@@ -30,8 +30,8 @@ module _ (t : Table) (n m p x : ℕ) (own gs : List ℕ) (kind about : ℕ) (r :
   mine k g e =
       record { place = x; behind = lo; before = hi; posts = subst (λ z. Posts (at t.code x) z) (sym e) (kd.posting (eqb-true kind 9 g)) }
 
-  pub own-more : r ≡ true → Owned t n (x + 1) gs
-  own-more z =
+  pub own_more : r ≡ true → Owned t n (x + 1) gs
+  own_more z =
       record {
         long = u.long ∙ o.long;
         known = λ k q e. ⊎_elim (λ a. o.known k q (sym a ∙ e))
@@ -47,8 +47,8 @@ module _ (t : Table) (n m p x : ℕ) (own gs : List ℕ) (kind about : ℕ) (r :
             (same_or i x);
       }
 
-  pub own-bad : r ≡ false → Alone t n → ⊥
-  own-bad z a =
+  pub own_bad : r ≡ false → Alone t n → ⊥
+  own_bad z a =
       let c = u.clash z in
       let q = some (get_or own about 0) c.1 in
       let d = o.known about q.0 q.1 in
@@ -59,7 +59,7 @@ pub own-none : (t : Table) (n : ℕ) → Owned t n 0 (replicate 64 0)
 own-none t n =
     record {
       long = length-replicate {A = ℕ} 64 0;
-      known = λ k q e. absurd (omega (arith, zero-at 64 k));
+      known = λ k q e. absurd (omega (arith, zero_at 64 k));
       done = λ q i k l a b c d. absurd (omega arith);
     }
 
@@ -67,7 +67,7 @@ module _ (t : Table) (n m : ℕ) (own : List ℕ) (rows : Rows t n m) (o : Owned
   -- what drives a signal is written down
   pub own-known : (p k : ℕ) → p < n → Drives t p k → get_or own k 0 ≡ suc p
   own-known p k l d =
-      let h = rows-climb t n m rows (suc p) (n - suc p) n (omega arith) (omega arith) in
+      let h = rows_climb t n m rows (suc p) (n - suc p) n (omega arith) (omega arith) in
       o.done p d.place k l d.behind d.before (omega (arith, d.before, rows.cover)) d.posts
 
   pub own_alone : Alone t n
@@ -84,8 +84,8 @@ record Posted (is : List Instruction) (k : ℕ) : Type 0 where
 posted-later : (i : Instruction) (is : List Instruction) (k : ℕ) → Posted is k → Posted (i ∷ is) k
 posted-later i is k p = record { place = suc p.place; exists = omega (arith, p.exists); posts = p.posts }
 
-posted-first : (i d k : ℕ) (is : List Instruction) → (eqb i k || posts is k) ≡ true → (posts is k ≡ true → Posted is k) → Posted (assignment i d ∷ is) k
-posted-first i d k is e f = go (eqb i k) refl e
+posted_first : (i d k : ℕ) (is : List Instruction) → (eqb i k || posts is k) ≡ true → (posts is k ≡ true → Posted is k) → Posted (assignment i d ∷ is) k
+posted_first i d k is e f = go (eqb i k) refl e
   where
     go : (b : Bool) → eqb i k ≡ b → (b || posts is k) ≡ true → Posted (assignment i d ∷ is) k
     go true h g = record { place = 0; exists = omega arith; posts = eqb-true i k h }
@@ -98,7 +98,7 @@ posted (name i ∷ is) k e = posted-later (name i) is k (posted is k e)
 posted (literal b ∷ is) k e = posted-later (literal b) is k (posted is k e)
 posted (negation ∷ is) k e = posted-later negation is k (posted is k e)
 posted (binary o ∷ is) k e = posted-later (binary o) is k (posted is k e)
-posted (assignment i d ∷ is) k e = posted-first i d k is e (posted is k)
+posted (assignment i d ∷ is) k e = posted_first i d k is e (posted is k)
 posted (test t ∷ is) k e = posted-later (test t) is k (posted is k e)
 posted (skip t ∷ is) k e = posted-later (skip t) is k (posted is k e)
 
@@ -106,23 +106,23 @@ or_right : (a b : Bool) → b ≡ true → (a || b) ≡ true
 or_right true b e = refl
 or_right false b e = e
 
-posts-at : (is : List Instruction) (k x : ℕ) → x < length is → Posts (at is x) k → posts is k ≡ true
+posts_at : (is : List Instruction) (k x : ℕ) → x < length is → Posts (at is x) k → posts is k ≡ true
 unfolding posts
-posts-at [] k x l p = absurd (omega arith)
-posts-at (name i ∷ is) k zero l p = absurd p
-posts-at (literal b ∷ is) k zero l p = absurd p
-posts-at (negation ∷ is) k zero l p = absurd p
-posts-at (binary o ∷ is) k zero l p = absurd p
-posts-at (assignment i d ∷ is) k zero l p = rw (eq-eqb i k p)
-posts-at (test t ∷ is) k zero l p = absurd p
-posts-at (skip t ∷ is) k zero l p = absurd p
-posts-at (name i ∷ is) k (suc x) l p = posts-at is k x (omega arith) p
-posts-at (literal b ∷ is) k (suc x) l p = posts-at is k x (omega arith) p
-posts-at (negation ∷ is) k (suc x) l p = posts-at is k x (omega arith) p
-posts-at (binary o ∷ is) k (suc x) l p = posts-at is k x (omega arith) p
-posts-at (assignment i d ∷ is) k (suc x) l p = or_right (eqb i k) (posts is k) (posts-at is k x (omega arith) p)
-posts-at (test t ∷ is) k (suc x) l p = posts-at is k x (omega arith) p
-posts-at (skip t ∷ is) k (suc x) l p = posts-at is k x (omega arith) p
+posts_at [] k x l p = absurd (omega arith)
+posts_at (name i ∷ is) k zero l p = absurd p
+posts_at (literal b ∷ is) k zero l p = absurd p
+posts_at (negation ∷ is) k zero l p = absurd p
+posts_at (binary o ∷ is) k zero l p = absurd p
+posts_at (assignment i d ∷ is) k zero l p = rw (eq-eqb i k p)
+posts_at (test t ∷ is) k zero l p = absurd p
+posts_at (skip t ∷ is) k zero l p = absurd p
+posts_at (name i ∷ is) k (suc x) l p = posts_at is k x (omega arith) p
+posts_at (literal b ∷ is) k (suc x) l p = posts_at is k x (omega arith) p
+posts_at (negation ∷ is) k (suc x) l p = posts_at is k x (omega arith) p
+posts_at (binary o ∷ is) k (suc x) l p = posts_at is k x (omega arith) p
+posts_at (assignment i d ∷ is) k (suc x) l p = or_right (eqb i k) (posts is k) (posts_at is k x (omega arith) p)
+posts_at (test t ∷ is) k (suc x) l p = posts_at is k x (omega arith) p
+posts_at (skip t ∷ is) k (suc x) l p = posts_at is k x (omega arith) p
 
 module _ (t : Table) (p : ℕ) (low : begins t p ≤ begins t (suc p)) (high : begins t (suc p) ≤ length t.code) where
   part_length : length (part t p) ≡ begins t (suc p) - begins t p
@@ -137,7 +137,7 @@ module _ (t : Table) (p : ℕ) (low : begins t p ≤ begins t (suc p)) (high : b
       let b = d.before in
       let x = d.place - begins t p in
       let e : begins t p + x ≡ d.place = omega arith in
-      posts-at (part t p) k x (omega (arith, part_length))
+      posts_at (part t p) k x (omega (arith, part_length))
       (rw (part-place x (omega arith), e) d.posts)
 
   pub posts-drives : (k : ℕ) → posts (part t p) k ≡ true → Drives t p k

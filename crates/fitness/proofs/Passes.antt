@@ -12,19 +12,19 @@ use lib.Seq.{get_or-set_same, get_or-set_other}
 use borrow.Author.Tests.{eqb-false, leb-true, le-leb, ne_eqb, not-true}
 use Rattle.laws.specs.Pick.{pick}
 use Rattle.laws.proofs.Cases.{same_or, some}
-use Rattle.laws.proofs.Lists.{zero-at}
+use Rattle.laws.proofs.Lists.{zero_at}
 use Rattle.laws.proofs.Deciding.{differ}
 use Rattle.table.specs.Instructions.{Instruction, takes, leaves}
 use Rattle.table.specs.Table.{Table, begins}
 use Rattle.table.specs.Fit.{at, Leads, Ahead, Way, begin, on, Sound}
 use Rattle.table.proofs.Heights.{leads-ahead}
-use Rattle.fitness.specs.Inside.Kinds.{takesOf, leavesOf, Follows, next, jump, Forward}
+use Rattle.fitness.specs.Inside.Kinds.{takes_of, leaves_of, Follows, next, jump, Forward}
 use Rattle.fitness.specs.Inside.Heights.{PutAs, after, Broken, short, high, clash, Stepped, Fresh, Passed}
 use Rattle.fitness.specs.Inside.Parts.{Sounds}
 use Rattle.fitness.proofs.Kind.{Kind}
 
-pub leaves-few : (kind : ℕ) → leavesOf kind ≤ 1
-unfolding leavesOf
+pub leaves-few : (kind : ℕ) → leaves_of kind ≤ 1
+unfolding leaves_of
 leaves-few kind = either (ltb kind 9)
   where
     either : (b : Bool) → pick b 1 0 ≤ 1
@@ -48,9 +48,9 @@ put-new hs j h go g l e =
       clash = λ r. differ r;
     }
 
-pub put-old : (hs : List ℕ) (j h : ℕ) (go r : Bool) → go ≡ true → (get_or hs j 0 ≡ 0 → ⊥)
+pub put_old : (hs : List ℕ) (j h : ℕ) (go r : Bool) → go ≡ true → (get_or hs j 0 ≡ 0 → ⊥)
     → (r ≡ true → get_or hs j 0 ≡ h) → (r ≡ false → get_or hs j 0 ≡ h → ⊥) → PutAs go hs j h r hs
-put-old hs j h go r g n y z =
+put_old hs j h go r g n y z =
     record { long = refl; grown = λ k. inl refl; there = λ e f. y e; clash = λ e. (g, n, z e) }
 
 -- STEP
@@ -59,15 +59,15 @@ module _ (hs : List ℕ) (kind about x : ℕ) where
   pub step-idle : get_or hs x 0 ≡ 0 → Stepped hs kind about x true hs
   step-idle e = record { long = refl; grown = λ k. inl refl; there = λ r z. absurd (omega arith); broken = λ r. differ r }
 
-  pub step-short : (get_or hs x 0 ≡ 0 → ⊥) → get_or hs x 0 ≤ takesOf kind → Stepped hs kind about x false hs
+  pub step-short : (get_or hs x 0 ≡ 0 → ⊥) → get_or hs x 0 ≤ takes_of kind → Stepped hs kind about x false hs
   step-short n e =
       record { long = refl; grown = λ k. inl refl; there = λ r z. differ (sym r); broken = λ r. (omega arith, short e) }
 
-  pub step-high : takesOf kind < get_or hs x 0 → 35 < after hs kind x → Stepped hs kind about x false hs
+  pub step-high : takes_of kind < get_or hs x 0 → 35 < after hs kind x → Stepped hs kind about x false hs
   step-high n e =
       record { long = refl; grown = λ k. inl refl; there = λ r z. differ (sym r); broken = λ r. (omega arith, high n e) }
 
-  module _ (ms : List ℕ) (h : ℕ) (enough : takesOf kind < get_or hs x 0) (same : h ≡ after hs kind x) (b : Bool)
+  module _ (ms : List ℕ) (h : ℕ) (enough : takes_of kind < get_or hs x 0) (same : h ≡ after hs kind x) (b : Bool)
       (p : PutAs (not (eqb kind 11)) hs (x + 1) h b ms) where
     goes : not (eqb kind 11) ≡ true → kind ≡ 11 → ⊥
     goes e = eqb-false kind 11 (not-true (eqb kind 11) e)
@@ -152,14 +152,14 @@ follows-up kind about end x y f l (next n e) = (omega arith, omega arith)
 follows-up kind about end x y f l (jump n e) = (omega (arith, f n), omega (arith, f n))
 
 -- every instruction leads somewhere
-leads-some : (kind about x : ℕ) → (y : ℕ) × Follows kind about x y
-leads-some kind about x =
+leads_some : (kind about x : ℕ) → (y : ℕ) × Follows kind about x y
+leads_some kind about x =
     ⊎_elim (λ e. (about, jump (omega arith) refl)) (λ n. (x + 1, next n refl)) (same_or kind 11)
 
 module _ (code : List Instruction) (from upto x : ℕ) (hs : List ℕ) (d : Done code from upto x hs) (l : x < upto)
     (kind about : ℕ) (kd : Kind kind about (at code x)) where
-  pub pass-more : (gs : List ℕ) (r : Bool) → Forward upto x kind about → Stepped hs kind about x r gs → r ≡ true → Done code from upto (x + 1) gs
-  pass-more gs r a s hr =
+  pub pass_more : (gs : List ℕ) (r : Bool) → Forward upto x kind about → Stepped hs kind about x r gs → r ≡ true → Done code from upto (x + 1) gs
+  pass_more gs r a s hr =
       let up : (y : ℕ) → Follows kind about x y → (x < y) × (y ≤ upto) = λ y f. follows-up kind about upto x y a l f in
       record {
         low = omega (arith, d.low);
@@ -195,7 +195,7 @@ module _ (code : List Instruction) (from upto x : ℕ) (hs : List ℕ) (d : Done
   broke : (m : ℕ) → get_or hs x 0 ≡ suc m → Sound code from upto → Forward upto x kind about → Broken hs kind about x → ⊥
   broke m e f a (short s) = omega (arith, f.enough x m (d.known x m d.low e) l, kd.taken)
   broke m e f a (high s h) =
-      let y = leads-some kind about x in
+      let y = leads_some kind about x in
       omega (arith, f.most y.0 _ (on y.0 (d.known x m d.low e) l (kd.leads x y.0 y.1)), kd.taken, kd.left)
   broke m e f a (clash j s g n o) =
       let p = some (get_or hs j 0) n in
@@ -226,8 +226,8 @@ module _ (code : List Instruction) (from upto : ℕ) (hs : List ℕ) (d : Done c
         ended = λ h w. omega (arith, (ways upto h w).1);
       }
 
-  pub pass-end : 1 < get_or hs upto 0 → Sound code from upto → ⊥
-  pass-end e f =
+  pub pass_end : 1 < get_or hs upto 0 → Sound code from upto → ⊥
+  pass_end e f =
       let m = some (get_or hs upto 0) (λ z. omega arith) in
       omega (arith, f.ended m.0 (d.known upto m.0 d.low m.1), m.1)
 
@@ -244,20 +244,20 @@ passed-not code from upto gs n = record { holds = λ e. differ (sym e); fails = 
 
 -- ALL PROCESSES
 
-pub fresh-first : Fresh 0 (set (replicate 4097 0) 0 1)
-fresh-first =
+pub fresh_first : Fresh 0 (set (replicate 4097 0) 0 1)
+fresh_first =
     record {
       long = length-set {A = ℕ} (replicate 4097 0) 0 1 ∙ length-replicate {A = ℕ} 4097 0;
       start = refl;
-      clear = λ j h. get_or-set_other {A = ℕ} (replicate 4097 0) 0 j 1 0 (λ e. omega arith) ∙ zero-at 4097 j;
+      clear = λ j h. get_or-set_other {A = ℕ} (replicate 4097 0) 0 j 1 0 (λ e. omega arith) ∙ zero_at 4097 j;
     }
 
 module _ (t : Table) (p from end : ℕ) (gs : List ℕ) (r : Bool) (e : from ≡ begins t p) (u : end ≡ begins t (suc p)) (s : Passed t.code from end r gs) where
-  pub sounds-bad : (n : ℕ) → p < n → r ≡ false → Sounds t n → ⊥
-  sounds-bad n l z a = s.fails z (rw (e, u) (a p l))
+  pub sounds_bad : (n : ℕ) → p < n → r ≡ false → Sounds t n → ⊥
+  sounds_bad n l z a = s.fails z (rw (e, u) (a p l))
 
-  pub sounds-more : r ≡ true → Sounds t p → Sounds t (p + 1)
-  sounds-more z a q l =
+  pub sounds_more : r ≡ true → Sounds t p → Sounds t (p + 1)
+  sounds_more z a q l =
       ⊎_elim
       (λ h. rw h (subst (λ y. Sound t.code (begins t p) y) u (subst (λ y. Sound t.code y end) e (s.holds z))))
       (λ h. a q (omega arith))

@@ -20,8 +20,8 @@ within_more w from j top a h i lo hi = ⊎_elim (λ e. rw e h) (λ n. a i lo (om
 pub gather_none : (w : List ℕ) (from : ℕ) → Gathered w from from 0
 gather_none w from = record { low = omega arith; none = λ e i lo hi. absurd (omega arith); zero = λ a. refl }
 
-pub gather-more : (w : List ℕ) (from j n : ℕ) → Gathered w from j n → Gathered w from (j + 1) (bit_or n (get_or w j 0))
-gather-more w from j n a =
+pub gather_more : (w : List ℕ) (from j n : ℕ) → Gathered w from j n → Gathered w from (j + 1) (bit_or n (get_or w j 0))
+gather_more w from j n a =
     let v = get_or w j 0 in
     record {
       low = omega (arith, a.low);
@@ -35,8 +35,8 @@ gather-more w from j n a =
           omega (arith, or_add_and n v);
     }
 
-pub gather-done : (w : List ℕ) (from upto j n : ℕ) → j ≡ upto → Gathered w from j n → Decides (eqb n 0) (Within w from upto 0)
-gather-done w from upto j n e g =
+pub gather_done : (w : List ℕ) (from upto j n : ℕ) → j ≡ upto → Gathered w from j n → Decides (eqb n 0) (Within w from upto 0)
+gather_done w from upto j n e g =
     rw (sym e) (record { holds = λ z. g.none (eqb-true n 0 z); fails = λ z a. eqb-false n 0 z (g.zero a) })
 
 -- one less than a power of two, doubled
@@ -45,5 +45,5 @@ double m k l e =
     let p : 2 ^ k ≤ 9223372036854775808 = pow-le-pow_right {n = 2} (omega arith) {i = k} {j = 63} (omega arith) in
     (omega arith, rw (add-one k, two-pow-succ k) (omega arith))
 
-pub most-is : (t p : ℕ) → t + 1 ≡ p → t ≡ p - 1
-most-is t p e = omega arith
+pub most_is : (t p : ℕ) → t + 1 ≡ p → t ≡ p - 1
+most_is t p e = omega arith

@@ -8,16 +8,16 @@ use mathlib.Core.Logic.{⊎_elim}
 use mathlib.Core.List.{List}
 use lib.ListN.{length, get_or, get_or-eq_default}
 use Rattle.laws.proofs.Cases.{side}
-use Rattle.laws.proofs.Ranges.{in-part}
+use Rattle.laws.proofs.Ranges.{in_part}
 use Rattle.syntax.specs.Circuit.{AND, OR, NAND, NOR, XOR, XNOR}
 use Rattle.table.specs.Instructions.{Instruction, name, literal, negation, binary, assignment, test, skip}
 use Rattle.table.specs.Table.{begins}
 use Rattle.table.specs.Fit.{at, Exists, FitTable}
-use Rattle.layout.specs.TableWords.{operationWord, delayWord, FitTableWords}
-use Rattle.layout.proofs.TableLaws.{instructionAt, words_small, operation-at, delay-at}
-use Rattle.layout.proofs.Tables.{decodeTable}
+use Rattle.layout.specs.TableWords.{operation_word, delay_word, FitTableWords}
+use Rattle.layout.proofs.TableLaws.{instruction_at, words_small, operation_at, delay_at}
+use Rattle.layout.proofs.Tables.{decode_table}
 use Rattle.layout.proofs.Decoded.{PlainTable, plain-table-holds, plain-fit-table, fit-plain-table}
-use Rattle.fitness.specs.Inside.Kinds.{aboutBelow, delayBelow, Legal, Legals}
+use Rattle.fitness.specs.Inside.Kinds.{about_below, delay_below, Legal, Legals}
 use Rattle.fitness.specs.Inside.Parts.{signals, processes, instructions, Within, Few, Used, Unused, Rows, Sounds, Ready}
 use Rattle.fitness.specs.Inside.Drivers.{Alone}
 use Rattle.fitness.proofs.Kind.{legal-words, legal-exists}
@@ -35,24 +35,24 @@ pub part-zero : (w : List ℕ) (base n m : ℕ) → Within w (base + n) (base + 
 part-zero w base n m z k lo hi = omega (arith, z (base + k) (omega arith) (omega arith))
 
 -- the words of an instruction of a fit table are legal
-legal-at : (s o d a k : ℕ) → o / 16 ≡ a → o % 16 ≡ k → k < 12 → a < aboutBelow s k → d < delayBelow k → Legal s o d
-legal-at s o d a k p q l x y = record { exists = rw q l; about = rw (p, q) x; short = rw q y }
+legal_at : (s o d a k : ℕ) → o / 16 ≡ a → o % 16 ≡ k → k < 12 → a < about_below s k → d < delay_below k → Legal s o d
+legal_at s o d a k p q l x y = record { exists = rw q l; about = rw (p, q) x; short = rw q y }
 
-legal-of : (s : ℕ) (i : Instruction) → Exists s i → operationWord i / 16 ≤ 4096 → Legal s (operationWord i) (delayWord i)
-unfolding aboutBelow delayBelow
-legal-of s (name k) h l = legal-at s (0 + 16 * k) 0 k 0 (omega arith) (omega arith) (omega arith) h (omega arith)
-legal-of s (literal true) h l = legal-at s 17 0 1 1 refl refl (omega arith) (omega arith) (omega arith)
-legal-of s (literal false) h l = legal-at s 1 0 0 1 refl refl (omega arith) (omega arith) (omega arith)
-legal-of s negation h l = legal-at s 2 0 0 2 refl refl (omega arith) (omega arith) (omega arith)
-legal-of s (binary AND) h l = legal-at s 3 0 0 3 refl refl (omega arith) (omega arith) (omega arith)
-legal-of s (binary OR) h l = legal-at s 4 0 0 4 refl refl (omega arith) (omega arith) (omega arith)
-legal-of s (binary NAND) h l = legal-at s 5 0 0 5 refl refl (omega arith) (omega arith) (omega arith)
-legal-of s (binary NOR) h l = legal-at s 6 0 0 6 refl refl (omega arith) (omega arith) (omega arith)
-legal-of s (binary XOR) h l = legal-at s 7 0 0 7 refl refl (omega arith) (omega arith) (omega arith)
-legal-of s (binary XNOR) h l = legal-at s 8 0 0 8 refl refl (omega arith) (omega arith) (omega arith)
-legal-of s (assignment k d) h l = legal-at s (9 + 16 * k) d k 9 (omega arith) (omega arith) (omega arith) h.0 (omega arith)
-legal-of s (test t) h l = legal-at s (10 + 16 * t) 0 t 10 (omega arith) (omega arith) (omega arith) (omega arith) (omega arith)
-legal-of s (skip t) h l = legal-at s (11 + 16 * t) 0 t 11 (omega arith) (omega arith) (omega arith) (omega arith) (omega arith)
+legal_of : (s : ℕ) (i : Instruction) → Exists s i → operation_word i / 16 ≤ 4096 → Legal s (operation_word i) (delay_word i)
+unfolding about_below delay_below
+legal_of s (name k) h l = legal_at s (0 + 16 * k) 0 k 0 (omega arith) (omega arith) (omega arith) h (omega arith)
+legal_of s (literal true) h l = legal_at s 17 0 1 1 refl refl (omega arith) (omega arith) (omega arith)
+legal_of s (literal false) h l = legal_at s 1 0 0 1 refl refl (omega arith) (omega arith) (omega arith)
+legal_of s negation h l = legal_at s 2 0 0 2 refl refl (omega arith) (omega arith) (omega arith)
+legal_of s (binary AND) h l = legal_at s 3 0 0 3 refl refl (omega arith) (omega arith) (omega arith)
+legal_of s (binary OR) h l = legal_at s 4 0 0 4 refl refl (omega arith) (omega arith) (omega arith)
+legal_of s (binary NAND) h l = legal_at s 5 0 0 5 refl refl (omega arith) (omega arith) (omega arith)
+legal_of s (binary NOR) h l = legal_at s 6 0 0 6 refl refl (omega arith) (omega arith) (omega arith)
+legal_of s (binary XOR) h l = legal_at s 7 0 0 7 refl refl (omega arith) (omega arith) (omega arith)
+legal_of s (binary XNOR) h l = legal_at s 8 0 0 8 refl refl (omega arith) (omega arith) (omega arith)
+legal_of s (assignment k d) h l = legal_at s (9 + 16 * k) d k 9 (omega arith) (omega arith) (omega arith) h.0 (omega arith)
+legal_of s (test t) h l = legal_at s (10 + 16 * t) 0 t 10 (omega arith) (omega arith) (omega arith) (omega arith) (omega arith)
+legal_of s (skip t) h l = legal_at s (11 + 16 * t) 0 t 11 (omega arith) (omega arith) (omega arith) (omega arith) (omega arith)
 
 -- FIT WORDS PASS EACH TEST
 
@@ -60,123 +60,123 @@ module _ (w : List ℕ) (words-fit : FitTableWords w) where
   plain : PlainTable w
   plain = (fit-plain-table w words-fit).0
 
-  pub fits : FitTable (decodeTable w)
+  pub fits : FitTable (decode_table w)
   fits = (fit-plain-table w words-fit).1
 
   pub fit-few : Few w
   fit-few =
       record {
         long = plain.long;
-        fewSignals = omega (arith, count-signals w, fits.fewSignals);
-        fewProcesses = omega (arith, count-processes w, fits.fewProcesses);
-        fewInstructions = omega (arith, count-instructions w, fits.fewInstructions);
+        few_signals = omega (arith, count-signals w, fits.few_signals);
+        few_processes = omega (arith, count-processes w, fits.few_processes);
+        few_instructions = omega (arith, count-instructions w, fits.few_instructions);
       }
 
   pub fit-used : Used w
   fit-used =
-      let s = fit-few.fewSignals in
+      let s = fit-few.few_signals in
       record {
-        values = λ i lo hi. in-part (λ j. get_or w j 0 ≤ 1) 3 (signals w) i (λ k l. omega (arith, plain.initial k (omega arith))) lo hi;
-        listeners = λ i lo hi. in-part (λ j. get_or w j 0 ≤ 2 ^ processes w - 1) 67 (signals w) i
-            (λ k l. omega (arith, listeners-word w k l, subst (λ n. get_or (decodeTable w).listeners k 0 < 2 ^ n) (count-processes w) (fits.woken k))) lo hi;
+        values = λ i lo hi. in_part (λ j. get_or w j 0 ≤ 1) 3 (signals w) i (λ k l. omega (arith, plain.initial k (omega arith))) lo hi;
+        listeners = λ i lo hi. in_part (λ j. get_or w j 0 ≤ 2 ^ processes w - 1) 67 (signals w) i
+            (λ k l. omega (arith, listeners-word w k l, subst (λ n. get_or (decode_table w).listeners k 0 < 2 ^ n) (count-processes w) (fits.woken k))) lo hi;
       }
 
   pub fit-unused : Unused w
   fit-unused =
       record {
-        noValues = zero-part w 3 (signals w) 64 plain.noInitial;
-        noListeners = zero-part w 67 (signals w) 64 plain.noListeners;
-        noEnds = zero-part w 131 (processes w) 64 plain.noEnds;
-        noOperations = zero-part w 195 (instructions w) 4096 plain.noOperations;
-        noDelays = zero-part w 4291 (instructions w) 4096 plain.noDelays;
+        no_values = zero-part w 3 (signals w) 64 plain.no_initial;
+        no_listeners = zero-part w 67 (signals w) 64 plain.no_listeners;
+        no_ends = zero-part w 131 (processes w) 64 plain.no_ends;
+        no_operations = zero-part w 195 (instructions w) 4096 plain.no_operations;
+        no_delays = zero-part w 4291 (instructions w) 4096 plain.no_delays;
       }
 
-  pub fit-rows : Rows (decodeTable w) (processes w) (instructions w)
+  pub fit-rows : Rows (decode_table w) (processes w) (instructions w)
   fit-rows =
       record {
         rising = λ p l. fits.rising p (omega (arith, count-processes w));
-        cover = ap (begins (decodeTable w)) (sym (count-processes w)) ∙ fits.cover ∙ count-instructions w;
+        cover = ap (begins (decode_table w)) (sym (count-processes w)) ∙ fits.cover ∙ count-instructions w;
       }
 
-  pub fit-legals : Legals w (signals w) (instructions w)
-  fit-legals x l =
+  pub fit_legals : Legals w (signals w) (instructions w)
+  fit_legals x l =
       let h = plain-table-holds w plain in
-      let m : x < length (decodeTable w).code = omega (arith, count-instructions w) in
-      let i = at (decodeTable w).code x in
-      rw (operation-at w (decodeTable w) h fits x m, delay-at w (decodeTable w) h fits x m)
-      (legal-of (signals w) i (subst (λ n. Exists n i) (count-signals w) (fits.exists x m)) (words_small (decodeTable w) fits x m).0)
+      let m : x < length (decode_table w).code = omega (arith, count-instructions w) in
+      let i = at (decode_table w).code x in
+      rw (operation_at w (decode_table w) h fits x m, delay_at w (decode_table w) h fits x m)
+      (legal_of (signals w) i (subst (λ n. Exists n i) (count-signals w) (fits.exists x m)) (words_small (decode_table w) fits x m).0)
 
   pub fit-ready : Ready w
-  fit-ready = record { few = fit-few; rows = fit-rows; legal = fit-legals }
+  fit-ready = record { few = fit-few; rows = fit-rows; legal = fit_legals }
 
-  pub fit-sounds : Sounds (decodeTable w) (processes w)
-  fit-sounds p l = fits.sound p (omega (arith, count-processes w))
+  pub fit_sounds : Sounds (decode_table w) (processes w)
+  fit_sounds p l = fits.sound p (omega (arith, count-processes w))
 
-  pub fit-alone : Alone (decodeTable w) (processes w)
+  pub fit-alone : Alone (decode_table w) (processes w)
   fit-alone p q k a b c d =
-      let x = rows-low (decodeTable w) (processes w) (instructions w) fit-rows p a in
-      let y = rows-low (decodeTable w) (processes w) (instructions w) fit-rows q b in
+      let x = rows-low (decode_table w) (processes w) (instructions w) fit-rows p a in
+      let y = rows-low (decode_table w) (processes w) (instructions w) fit-rows q b in
       let n = count-instructions w in
       fits.alone p q k (omega (arith, count-processes w)) (omega (arith, count-processes w))
-      (drives-posts (decodeTable w) p x.0 (omega arith) k c) (drives-posts (decodeTable w) q y.0 (omega arith) k d)
+      (drives-posts (decode_table w) p x.0 (omega arith) k c) (drives-posts (decode_table w) q y.0 (omega arith) k d)
 
 -- AND WORDS THAT PASS ALL ARE FIT
 
-some-power : (n : ℕ) → 1 ≤ 2 ^ n
-some-power n = pow-le-pow_right {n = 2} (omega arith) {i = 0} {j = n} (omega arith)
+some_power : (n : ℕ) → 1 ≤ 2 ^ n
+some_power n = pow-le-pow_right {n = 2} (omega arith) {i = 0} {j = n} (omega arith)
 
-module _ (w : List ℕ) (ready : Ready w) (used : Used w) (unused : Unused w) (sounds : Sounds (decodeTable w) (processes w)) (alone : Alone (decodeTable w) (processes w)) where
+module _ (w : List ℕ) (ready : Ready w) (used : Used w) (unused : Unused w) (sounds : Sounds (decode_table w) (processes w)) (alone : Alone (decode_table w) (processes w)) where
   plainly : PlainTable w
-  unfolding instructionAt
+  unfolding instruction_at
   plainly =
       record {
         long = ready.few.long;
         initial = λ k l. ⊎_elim
             (λ u. omega (arith, used.values (3 + k) (omega arith) (omega arith)))
-            (λ u. omega (arith, unused.noValues (3 + k) (omega arith) (omega arith)))
+            (λ u. omega (arith, unused.no_values (3 + k) (omega arith) (omega arith)))
             (side k (signals w));
-        noInitial = part-zero w 3 (signals w) 64 unused.noValues;
-        noListeners = part-zero w 67 (signals w) 64 unused.noListeners;
-        noEnds = part-zero w 131 (processes w) 64 unused.noEnds;
+        no_initial = part-zero w 3 (signals w) 64 unused.no_values;
+        no_listeners = part-zero w 67 (signals w) 64 unused.no_listeners;
+        no_ends = part-zero w 131 (processes w) 64 unused.no_ends;
         operations = λ x u l. (legal-words (signals w) _ _ (ready.legal x u)).0;
         delays = λ x u l. (legal-words (signals w) _ _ (ready.legal x u)).1;
-        noOperations = part-zero w 195 (instructions w) 4096 unused.noOperations;
-        noDelays = part-zero w 4291 (instructions w) 4096 unused.noDelays;
+        no_operations = part-zero w 195 (instructions w) 4096 unused.no_operations;
+        no_delays = part-zero w 4291 (instructions w) 4096 unused.no_delays;
       }
 
-  wakes : (k : ℕ) → get_or (decodeTable w).listeners k 0 < 2 ^ processes w
+  wakes : (k : ℕ) → get_or (decode_table w).listeners k 0 < 2 ^ processes w
   wakes k =
       ⊎_elim
-      (λ u. omega (arith, some-power (processes w), listeners-word w k u, used.listeners (67 + k) (omega arith) (omega arith)))
-      (λ u. omega (arith, some-power (processes w), get_or-eq_default (decodeTable w).listeners 0 {n = k} (omega (arith, count-listeners w))))
+      (λ u. omega (arith, some_power (processes w), listeners-word w k u, used.listeners (67 + k) (omega arith) (omega arith)))
+      (λ u. omega (arith, some_power (processes w), get_or-eq_default (decode_table w).listeners 0 {n = k} (omega (arith, count-listeners w))))
       (side k (signals w))
 
-  exist : (x : ℕ) → x < instructions w → Exists (signals w) (at (decodeTable w).code x)
-  unfolding instructionAt
+  exist : (x : ℕ) → x < instructions w → Exists (signals w) (at (decode_table w).code x)
+  unfolding instruction_at
   exist x l = rw (code-word w x l) (legal-exists (signals w) _ _ (ready.legal x l))
 
-  fitly : FitTable (decodeTable w)
+  fitly : FitTable (decode_table w)
   fitly =
       let s = count-signals w in
       let p = count-processes w in
       let n = count-instructions w in
       let rows = ready.rows in
       record {
-        fewSignals = omega (arith, ready.few.fewSignals);
-        fewProcesses = omega (arith, ready.few.fewProcesses);
-        fewInstructions = omega (arith, ready.few.fewInstructions);
+        few_signals = omega (arith, ready.few.few_signals);
+        few_processes = omega (arith, ready.few.few_processes);
+        few_instructions = omega (arith, ready.few.few_instructions);
         listening = count-listeners w ∙ sym s;
         woken = λ k. rw p (wakes k);
         rising = λ q l. rows.rising q (omega arith);
-        cover = ap (begins (decodeTable w)) p ∙ rows.cover ∙ sym n;
+        cover = ap (begins (decode_table w)) p ∙ rows.cover ∙ sym n;
         exists = λ x l. rw s (exist x (omega arith));
         sound = λ q l. sounds q (omega arith);
         alone = λ q r k a b c d.
-            let x = rows-low (decodeTable w) (processes w) (instructions w) rows q (omega arith) in
-            let y = rows-low (decodeTable w) (processes w) (instructions w) rows r (omega arith) in
+            let x = rows-low (decode_table w) (processes w) (instructions w) rows q (omega arith) in
+            let y = rows-low (decode_table w) (processes w) (instructions w) rows r (omega arith) in
             alone q r k (omega arith) (omega arith)
-            (posts-drives (decodeTable w) q x.0 (omega arith) k c) (posts-drives (decodeTable w) r y.0 (omega arith) k d);
+            (posts-drives (decode_table w) q x.0 (omega arith) k c) (posts-drives (decode_table w) r y.0 (omega arith) k d);
       }
 
-  pub words-are-fit : FitTableWords w
-  words-are-fit = plain-fit-table w plainly fitly
+  pub words_are_fit : FitTableWords w
+  words_are_fit = plain-fit-table w plainly fitly

@@ -2,7 +2,7 @@
 ghost use Rattle.std.specs.Prelude.{◌≡◌, suc, ◌<◌, replicate};
 ghost use Rattle.laws.specs.Decides.{Decides};
 ghost use Rattle.table.specs.Table.{begins};
-ghost use Rattle.layout.proofs.Tables.{decodeTable};
+ghost use Rattle.layout.proofs.Tables.{decode_table};
 ghost use Rattle.fitness.specs.Inside.Parts.{processes, instructions, Ready};
 ghost use Rattle.fitness.specs.Inside.Drivers.{Alone, Owned, Drove};
 
@@ -12,10 +12,10 @@ use crate::heights::put;
 fn drives(words: &[u64], own: &mut [u8], p: u8, from: usize, upto: usize) -> bool
     requires ready { Ready words.now }
     requires p_bound { p < processes words.now }
-    requires from_value { from ≡ begins (decodeTable words.now) p }
-    requires upto_value { upto ≡ begins (decodeTable words.now) (suc p) }
-    requires owned { Owned (decodeTable words.now) (processes words.now) from own.old }
-    ensures { Drove (decodeTable words.now) (processes words.now) upto result own.new }
+    requires from_value { from ≡ begins (decode_table words.now) p }
+    requires upto_value { upto ≡ begins (decode_table words.now) (suc p) }
+    requires owned { Owned (decode_table words.now) (processes words.now) from own.old }
+    ensures { Drove (decode_table words.now) (processes words.now) upto result own.new }
 {
     let driver = p + 1;
     let mut x = from;
@@ -35,7 +35,7 @@ fn drives(words: &[u64], own: &mut [u8], p: u8, from: usize, upto: usize) -> boo
 pub fn owners(words: &[u64], own: &mut [u8]) -> bool
     requires ready { Ready words.now }
     requires own_value { own.old ≡ replicate 64 0 }
-    ensures { Drove (decodeTable words.now) (processes words.now) (instructions words.now) result own.new }
+    ensures { Drove (decode_table words.now) (processes words.now) (instructions words.now) result own.new }
 {
     let processes = words[1] as u8;
     let mut from = 0;
@@ -55,7 +55,7 @@ pub fn owners(words: &[u64], own: &mut [u8]) -> bool
 // Whether no signal is posted by two processes.
 pub fn alone(words: &[u64]) -> bool
     requires { Ready words.now }
-    ensures { Decides result (Alone (decodeTable words.now) (processes words.now)) }
+    ensures { Decides result (Alone (decode_table words.now) (processes words.now)) }
 {
     let mut own = [0u8; 64];
     owners(words, &mut own)

@@ -1,7 +1,7 @@
 // Numbers of operands: one pass over the instructions, which writes down with how many each is reached.
 ghost use Rattle.std.specs.Prelude.{◌≡◌, true, ◌≤◌, ◌<◌, length, get_or};
 ghost use Rattle.laws.specs.Decides.{Decides};
-ghost use Rattle.layout.proofs.Tables.{decodeTable};
+ghost use Rattle.layout.proofs.Tables.{decode_table};
 ghost use Rattle.fitness.specs.Inside.Parts.{processes, instructions, Ready, Sounds};
 ghost use Rattle.fitness.specs.Inside.Kinds.{Forward};
 ghost use Rattle.fitness.specs.Inside.Heights.{PutAs, Stepped, Fresh, Passed};
@@ -73,7 +73,7 @@ fn heights(words: &[u64], hs: &mut [u8], from: usize, upto: usize) -> bool
     requires from_le_upto { from ≤ upto }
     requires upto_bound { upto ≤ instructions words.now }
     requires fresh { Fresh from hs.old }
-    ensures { Passed (decodeTable words.now).code from upto result hs.new }
+    ensures { Passed (decode_table words.now).code from upto result hs.new }
 {
     let mut x = from;
     while x < upto {
@@ -98,7 +98,7 @@ fn heights(words: &[u64], hs: &mut [u8], from: usize, upto: usize) -> bool
 // Whether the operands of every process keep the rules.
 pub fn sounds(words: &[u64]) -> bool
     requires { Ready words.now }
-    ensures { Decides result (Sounds (decodeTable words.now) (processes words.now)) }
+    ensures { Decides result (Sounds (decode_table words.now) (processes words.now)) }
 {
     let processes = words[1] as usize;
     let mut hs = [0u8; 4097];

@@ -2,7 +2,7 @@
 ghost use Rattle.std.specs.Prelude.{◌≡◌, ◌<◌};
 ghost use Rattle.laws.specs.Decides.{Decides};
 ghost use Rattle.fitness.specs.Inside.Parts.{signals, instructions, Few};
-ghost use Rattle.fitness.specs.Inside.Kinds.{takesOf, leavesOf, aboutBelow, delayBelow, Legal, Legals};
+ghost use Rattle.fitness.specs.Inside.Kinds.{takes_of, leaves_of, about_below, delay_below, Legal, Legals};
 
 const TAKES: [u8; 12] = [0, 0, 1, 2, 2, 2, 2, 2, 2, 1, 1, 0];
 // What an instruction is about is below this, or, where it is a signal, below the number of signals.
@@ -15,14 +15,14 @@ const DELAY: [u64; 12] = [1, 1, 1, 1, 1, 1, 1, 1, 1, ABOVE_LONGEST, 1, 1];
 // How many operands an instruction takes.
 pub fn takes_of(kind: usize) -> u8
     requires { kind < 12 }
-    ensures { result ≡ takesOf kind }
+    ensures { result ≡ takes_of kind }
 {
     TAKES[kind]
 }
 
 // How many operands an instruction leaves.
 pub fn leaves_of(kind: usize) -> u8
-    ensures { result ≡ leavesOf kind }
+    ensures { result ≡ leaves_of kind }
 {
     if kind < 9 {
         return 1;
@@ -32,7 +32,7 @@ pub fn leaves_of(kind: usize) -> u8
 
 fn about_below(signals: u64, kind: usize) -> u64
     requires { kind < 12 }
-    ensures { result ≡ aboutBelow signals kind }
+    ensures { result ≡ about_below signals kind }
 {
     match kind {
         0 | 9 => signals,
@@ -42,7 +42,7 @@ fn about_below(signals: u64, kind: usize) -> u64
 
 fn delay_below(kind: usize) -> u64
     requires { kind < 12 }
-    ensures { result ≡ delayBelow kind }
+    ensures { result ≡ delay_below kind }
 {
     DELAY[kind]
 }

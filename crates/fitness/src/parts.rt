@@ -1,7 +1,7 @@
 // Ranges of a table's words, its counts, and the ends of its processes.
 ghost use Rattle.std.specs.Prelude.{◌≡◌, ◌+◌, ◌^◌, ◌≤◌, length};
 ghost use Rattle.laws.specs.Decides.{Decides};
-ghost use Rattle.layout.proofs.Tables.{decodeTable};
+ghost use Rattle.layout.proofs.Tables.{decode_table};
 ghost use Rattle.fitness.specs.Inside.Parts.{processes, instructions, Within, Few, Rows, Used, Unused};
 
 // Whether the words from one place up to another are at most top.
@@ -103,7 +103,7 @@ pub fn unused(words: &[u64]) -> bool
 // Whether the processes' instructions follow one another without gap and cover all.
 pub fn ends(words: &[u64]) -> bool
     requires { Few words.now }
-    ensures { Decides result (Rows (decodeTable words.now) (processes words.now) (instructions words.now)) }
+    ensures { Decides result (Rows (decode_table words.now) (processes words.now) (instructions words.now)) }
 {
     let processes = words[1] as usize;
     let mut from: u64 = 0;

@@ -12,8 +12,8 @@ use Rattle.rules.specs.Session.{driven}
 use Rattle.table.specs.Instructions.{Instruction, name, literal, negation, binary, assignment, test, skip}
 use Rattle.table.specs.Table.{tabulate, begins, posts, runner, runners}
 use Rattle.table.specs.Fit.{at, Exists, FitTable}
-use Rattle.table.proofs.Obedient.{driven-by}
-use Rattle.layout.proofs.Tables.{decodeTable}
+use Rattle.table.proofs.Obedient.{driven_by}
+use Rattle.layout.proofs.Tables.{decode_table}
 use Rattle.fitness.specs.Inside.Parts.{processes, instructions, Rows}
 use Rattle.fitness.specs.Inside.Drivers.{Posts, Owned}
 use Rattle.fitness.proofs.Reading.{count-processes, count-instructions, rows-low}
@@ -26,10 +26,10 @@ record Driver (f : ℕ → Runner) (i n k : ℕ) : Type 0 where
   below : process < i + n
   drives : (f process).drives k ≡ true
 
-driver-of : (f : ℕ → Runner) (i n k : ℕ) → driven (tabulate f i n) k ≡ true → Driver f i n k
+driver_of : (f : ℕ → Runner) (i n k : ℕ) → driven (tabulate f i n) k ≡ true → Driver f i n k
 unfolding tabulate driven
-driver-of f i zero k e = differ (sym e)
-driver-of f i (suc n) k e = go ((f i).drives k) refl e (λ g. driver-of f (suc i) n k g)
+driver_of f i zero k e = differ (sym e)
+driver_of f i (suc n) k e = go ((f i).drives k) refl e (λ g. driver_of f (suc i) n k g)
   where
     go : (b : Bool) → (f i).drives k ≡ b → (b || driven (tabulate f (suc i) n) k) ≡ true
         → (driven (tabulate f (suc i) n) k ≡ true → Driver f (suc i) n k) → Driver f i (suc n) k
@@ -47,43 +47,43 @@ posts-exists (assignment j d) s k p e = subst (λ x. x < s) p e.0
 posts-exists (test t) s k p e = absurd p
 posts-exists (skip t) s k p e = absurd p
 
-module _ (w own : List ℕ) (rows : Rows (decodeTable w) (processes w) (instructions w)) (o : Owned (decodeTable w) (processes w) (instructions w) own) where
-  low : (p : ℕ) → p < processes w → (begins (decodeTable w) p ≤ begins (decodeTable w) (suc p)) × (begins (decodeTable w) (suc p) ≤ length (decodeTable w).code)
+module _ (w own : List ℕ) (rows : Rows (decode_table w) (processes w) (instructions w)) (o : Owned (decode_table w) (processes w) (instructions w) own) where
+  low : (p : ℕ) → p < processes w → (begins (decode_table w) p ≤ begins (decode_table w) (suc p)) × (begins (decode_table w) (suc p) ≤ length (decode_table w).code)
   low p l =
-      let q = rows-low (decodeTable w) (processes w) (instructions w) rows p l in
+      let q = rows-low (decode_table w) (processes w) (instructions w) rows p l in
       (q.0, omega (arith, count-instructions w))
 
-  pub driven-known : (k : ℕ) → (get_or own k 0 ≡ 0 → ⊥) → driven (runners (decodeTable w)) k ≡ true
+  pub driven-known : (k : ℕ) → (get_or own k 0 ≡ 0 → ⊥) → driven (runners (decode_table w)) k ≡ true
   unfolding runners runner
   driven-known k n =
       let q = some (get_or own k 0) n in
       let d = o.known k q.0 q.1 in
       let b = low q.0 d.0 in
-      driven-by (runner (decodeTable w)) 0 (length (decodeTable w).ends) q.0 k (omega arith) (omega (arith, d.0, count-processes w))
-      (drives-posts (decodeTable w) q.0 b.0 b.1 k d.1)
+      driven_by (runner (decode_table w)) 0 (length (decode_table w).ends) q.0 k (omega arith) (omega (arith, d.0, count-processes w))
+      (drives-posts (decode_table w) q.0 b.0 b.1 k d.1)
 
-  pub driven-none : (k : ℕ) → get_or own k 0 ≡ 0 → driven (runners (decodeTable w)) k ≡ false
+  pub driven-none : (k : ℕ) → get_or own k 0 ≡ 0 → driven (runners (decode_table w)) k ≡ false
   unfolding runners runner
-  driven-none k z = go (driven (tabulate (runner (decodeTable w)) 0 (length (decodeTable w).ends)) k) refl
+  driven-none k z = go (driven (tabulate (runner (decode_table w)) 0 (length (decode_table w).ends)) k) refl
     where
-      go : (b : Bool) → driven (tabulate (runner (decodeTable w)) 0 (length (decodeTable w).ends)) k ≡ b
-          → driven (tabulate (runner (decodeTable w)) 0 (length (decodeTable w).ends)) k ≡ false
+      go : (b : Bool) → driven (tabulate (runner (decode_table w)) 0 (length (decode_table w).ends)) k ≡ b
+          → driven (tabulate (runner (decode_table w)) 0 (length (decode_table w).ends)) k ≡ false
       go false e = e
       go true e =
-          let d = driver-of (runner (decodeTable w)) 0 (length (decodeTable w).ends) k e in
+          let d = driver_of (runner (decode_table w)) 0 (length (decode_table w).ends) k e in
           let l : d.process < processes w = omega (arith, d.below, count-processes w) in
           let b = low d.process l in
           absurd
           (omega (
             arith,
-            own-known (decodeTable w) (processes w) (instructions w) own rows o d.process k l
-                (posts-drives (decodeTable w) d.process b.0 b.1 k d.drives),
+            own-known (decode_table w) (processes w) (instructions w) own rows o d.process k l
+                (posts-drives (decode_table w) d.process b.0 b.1 k d.drives),
           ))
 
   -- a signal that has a driver is there
-  pub driven-exists : FitTable (decodeTable w) → (k : ℕ) → (get_or own k 0 ≡ 0 → ⊥) → k < length (decodeTable w).initial
+  pub driven-exists : FitTable (decode_table w) → (k : ℕ) → (get_or own k 0 ≡ 0 → ⊥) → k < length (decode_table w).initial
   driven-exists f k n =
       let q = some (get_or own k 0) n in
       let d = o.known k q.0 q.1 in
       let b = low q.0 d.0 in
-      posts-exists (at (decodeTable w).code d.1.place) (length (decodeTable w).initial) k d.1.posts (f.exists d.1.place (omega (arith, d.1.before)))
+      posts-exists (at (decode_table w).code d.1.place) (length (decode_table w).initial) k d.1.posts (f.exists d.1.place (omega (arith, d.1.before)))

@@ -6,7 +6,7 @@ ghost use Rattle.table.specs.Table.{Table};
 ghost use Rattle.table.specs.Fit.{FitTable};
 ghost use Rattle.layout.specs.TableWords.{HoldsTable, FitTableWords};
 ghost use Rattle.layout.specs.SessionWords.{FitSessionWords};
-ghost use Rattle.fitness_session.specs.Inside.Parts.{Head, Changes, mostFor, Signal, Signals};
+ghost use Rattle.fitness_session.specs.Inside.Parts.{Head, Changes, most_for, Signal, Signals};
 
 use fitness::drivers::owners;
 use fitness::parts::{within, zeros};
@@ -59,7 +59,7 @@ fn changes(words: &[u64], from: usize, count: usize, time: u64) -> bool
 
 // How many changes may be pending for a signal with this driver.
 fn most_for(driver: u8) -> u64
-    ensures { result ≡ mostFor driver }
+    ensures { result ≡ most_for driver }
 {
     if driver == 0 {
         return 0;

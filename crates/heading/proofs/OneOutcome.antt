@@ -7,33 +7,33 @@ use lib.ListN.{length}
 use lib.Seq.{sets}
 use Rattle.syntax.specs.Tree.{Design}
 use Rattle.rules.specs.Dump.{header}
-use Rattle.names.specs.CircuitOf.{entityName, signalNames}
+use Rattle.names.specs.CircuitOf.{entity_name, signal_names}
 use Rattle.names.proofs.Answer.{one_answer}
 use Rattle.heading.specs.declared.Headed.{Headed}
 use Rattle.heading.specs.declared.Headed.TheVariants.{Written, Refused}
 use Rattle.heading.specs.Headed.{RefusedWith, short, turned, Shows, Heads}
 
 module _ (text out : List ℕ) where
-  same-refusal : {n p m q : ℕ} → RefusedWith text out n p → RefusedWith text out m q → Refused n p ≡ Refused m q
-  same-refusal (short h) (short g) = refl
-  same-refusal (short h) (turned g x) = absurd (omega arith)
-  same-refusal (turned h x) (short g) = absurd (omega arith)
-  same-refusal (turned h x) (turned g y) = let e = one_answer text _ _ x y in cc
+  same_refusal : {n p m q : ℕ} → RefusedWith text out n p → RefusedWith text out m q → Refused n p ≡ Refused m q
+  same_refusal (short h) (short g) = refl
+  same_refusal (short h) (turned g x) = absurd (omega arith)
+  same_refusal (turned h x) (short g) = absurd (omega arith)
+  same_refusal (turned h x) (turned g y) = let e = one_answer text _ _ x y in cc
 
   never_both : {n p count : ℕ} {after : List ℕ} → RefusedWith text out n p → Shows text out count after → ⊥
   never_both (short h) s = omega (arith, s.long)
   never_both (turned h x) s = let e = one_answer text _ _ x s.gets in let z : ◌≡◌ {A = ℕ} 0 1 = cc in omega arith
 
-  same-shown : {n m : ℕ} {a b : List ℕ} → Shows text out n a → Shows text out m b → (Written n ≡ Written m) × (a ≡ b)
-  same-shown s u =
+  same_shown : {n m : ℕ} {a b : List ℕ} → Shows text out n a → Shows text out m b → (Written n ≡ Written m) × (a ≡ b)
+  same_shown s u =
       let e = one_answer text _ _ s.gets u.gets in
       let d : s.tree ≡ u.tree = cc in (
-        ap Written (s.counted ∙ ap (λ (t : Design). length (header (entityName t) (signalNames t))) d ∙ sym u.counted),
-        s.bytes ∙ ap (λ (t : Design). sets out 0 (header (entityName t) (signalNames t))) d ∙ sym u.bytes,
+        ap Written (s.counted ∙ ap (λ (t : Design). length (header (entity_name t) (signal_names t))) d ∙ sym u.counted),
+        s.bytes ∙ ap (λ (t : Design). sets out 0 (header (entity_name t) (signal_names t))) d ∙ sym u.bytes,
       )
 
-  pub one-outcome : (r r' : Headed) (after after' : List ℕ) → Heads text out r after → Heads text out r' after' → (r ≡ r') × (after ≡ after')
-  one-outcome (Written n) (Written m) a b x y = same-shown x y
-  one-outcome (Written n) (Refused m q) a b x y = absurd (never_both y.0 x)
-  one-outcome (Refused n p) (Written m) a b x y = absurd (never_both x.0 y)
-  one-outcome (Refused n p) (Refused m q) a b x y = (same-refusal x.0 y.0, x.1 ∙ sym y.1)
+  pub one_outcome : (r r' : Headed) (after after' : List ℕ) → Heads text out r after → Heads text out r' after' → (r ≡ r') × (after ≡ after')
+  one_outcome (Written n) (Written m) a b x y = same_shown x y
+  one_outcome (Written n) (Refused m q) a b x y = absurd (never_both y.0 x)
+  one_outcome (Refused n p) (Written m) a b x y = absurd (never_both x.0 y)
+  one_outcome (Refused n p) (Refused m q) a b x y = (same_refusal x.0 y.0, x.1 ∙ sym y.1)

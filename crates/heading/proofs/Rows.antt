@@ -8,20 +8,20 @@ use mathlib.Core.List.{List, [], ◌∷◌, ◌++◌, append_assoc}
 use lib.ListN.{length, get_or, length-append, length-map}
 use Rattle.laws.specs.Text.{bytes}
 use Rattle.words.specs.Token.{Name}
-use Rattle.words.specs.Vocabulary.{lowerOf, lower}
+use Rattle.words.specs.Vocabulary.{lower_of, lower}
 use Rattle.rules.specs.Dump.{identifier, variables, header}
 use Rattle.look.specs.Inside.Looks.{name_at, look_of}
-use Rattle.ledger.specs.Inside.Standing.{namesFrom, Shelf, Standing, Keeps, keepsFine}
+use Rattle.ledger.specs.Inside.Standing.{names_from, Shelf, Standing, Keeps, keeps_fine}
 use Rattle.writing.specs.Inside.Written.{Writes}
-use Rattle.writing.proofs.Buffers.{writes-both, writes-none}
+use Rattle.writing.proofs.Buffers.{writes_both, writes-none}
 use Rattle.names.specs.Judge.{State, fine}
-use Rattle.names.specs.CircuitOf.{entityName, signalNames}
-use Rattle.rules.specs.Sizes.{bufferBytes}
-use Rattle.demands.specs.Shown.{designHeader}
+use Rattle.names.specs.CircuitOf.{entity_name, signal_names}
+use Rattle.rules.specs.Sizes.{buffer_bytes}
+use Rattle.demands.specs.Shown.{design_header}
 use Rattle.demands.proofs.Header.{accepted-header-fits}
 use Rattle.look.specs.declared.Look.{Look}
 use Rattle.reading.specs.Inside.Spots.{word_of}
-use Rattle.reader.specs.Inside.Designs.{beginning, Survey, Surveyed, acceptedAs, refusedAs}
+use Rattle.reader.specs.Inside.Designs.{beginning, Survey, Surveyed, accepted_as, refused_as}
 use Rattle.reader.specs.declared.design.Checked.{Checked}
 use Rattle.reader.specs.declared.design.Checked.TheVariants.{Accepted, Refused}
 use Rattle.names.specs.Text.{refuses, Gets}
@@ -29,28 +29,28 @@ use Rattle.heading.specs.Headed.{Shows}
 use Rattle.heading.specs.Inside.Lines.{variable}
 
 -- a byte of a name in lower case
-pub lower-at : (run : List ℕ) (i : ℕ) → i < length run → get_or (lower run) i 0 ≡ lowerOf (get_or run i 0)
-lower-at [] i h = absurd (omega arith)
-lower-at (x ∷ run) zero h = refl
-lower-at (x ∷ run) (suc i) h = lower-at run i (omega arith)
+pub lower_at : (run : List ℕ) (i : ℕ) → i < length run → get_or (lower run) i 0 ≡ lower_of (get_or run i 0)
+lower_at [] i h = absurd (omega arith)
+lower_at (x ∷ run) zero h = refl
+lower_at (x ∷ run) (suc i) h = lower_at run i (omega arith)
 
 pub lower-length : (run : List ℕ) → length (lower run) ≡ length run
-lower-length run = length-map run lowerOf
+lower-length run = length-map run lower_of
 
 -- the line of a signal in front of those of the others
-pub variables-more : (k : ℕ) (n : Name) (ns : List Name) → variables k (n ∷ ns) ≡ variable k n ++ variables (suc k) ns
+pub variables_more : (k : ℕ) (n : Name) (ns : List Name) → variables k (n ∷ ns) ≡ variable k n ++ variables (suc k) ns
 unfolding variables variable
-variables-more k n ns =
+variables_more k n ns =
     ap (λ (l : List ℕ). bytes "$var wire 1 " ++ (identifier k ∷ bytes " " ++ l)) (sym (append_assoc n (bytes " $end\n") (variables (suc k) ns)))
 
-pub line-written : {out o1 o2 o3 o4 o5 : List ℕ} {at a b c d r : ℕ} (k : ℕ) {n : Name} → Writes out at (bytes "$var wire 1 ") a o1 → Writes o1 a (identifier k ∷ []) b o2
+pub line_written : {out o1 o2 o3 o4 o5 : List ℕ} {at a b c d r : ℕ} (k : ℕ) {n : Name} → Writes out at (bytes "$var wire 1 ") a o1 → Writes o1 a (identifier k ∷ []) b o2
     → Writes o2 b (bytes " ") c o3 → Writes o3 c n d o4 → Writes o4 d (bytes " $end\n") r o5 → Writes out at (variable k n) r o5
 unfolding variable
-line-written {out} {o1} {o2} {o3} {o4} {o5} {at} {a} {b} {c} {d} {r} k {n} w1 w2 w3 w4 w5 =
-    writes-both out at (bytes "$var wire 1 ") _ a r o1 o5 w1
-    (writes-both o1 a (identifier k ∷ []) _ b r o2 o5 w2
-    (writes-both o2 b (bytes " ") _ c r o3 o5 w3
-    (writes-both o3 c n (bytes " $end\n") d r o4 o5 w4 w5)))
+line_written {out} {o1} {o2} {o3} {o4} {o5} {at} {a} {b} {c} {d} {r} k {n} w1 w2 w3 w4 w5 =
+    writes_both out at (bytes "$var wire 1 ") _ a r o1 o5 w1
+    (writes_both o1 a (identifier k ∷ []) _ b r o2 o5 w2
+    (writes_both o2 b (bytes " ") _ c r o3 o5 w3
+    (writes_both o3 c n (bytes " $end\n") d r o4 o5 w4 w5)))
 
 pub variable-length : (k : ℕ) (n : Name) → length (variable k n) ≡ 20 + length n
 unfolding variable
@@ -59,54 +59,54 @@ variable-length k n = let h = length-append n (bytes " $end\n") in omega arith
 -- THE NAMES OF A LEDGER
 
 -- those from number k on
-unfoldable pub namesOn : (t l : List ℕ) (count k : ℕ) → List Name
-namesOn t l count k = namesFrom t l (6 + 2 * k) (count - k)
+unfoldable pub names_on : (t l : List ℕ) (count k : ℕ) → List Name
+names_on t l count k = names_from t l (6 + 2 * k) (count - k)
 
-pub names-first : (t l : List ℕ) (count : ℕ) → namesOn t l count 0 ≡ namesFrom t l 6 count
-unfolding namesOn
-names-first t l count = let z : count - 0 ≡ count = omega arith in rw z
+pub names_first : (t l : List ℕ) (count : ℕ) → names_on t l count 0 ≡ names_from t l 6 count
+unfolding names_on
+names_first t l count = let z : count - 0 ≡ count = omega arith in rw z
 
-pub names-none : (t l : List ℕ) (count k : ℕ) → count ≤ k → namesOn t l count k ≡ []
-unfolding namesOn namesFrom
+pub names-none : (t l : List ℕ) (count k : ℕ) → count ≤ k → names_on t l count k ≡ []
+unfolding names_on names_from
 names-none t l count k h = let z : count - k ≡ 0 = omega arith in rw z
 
-pub names-next : (t l : List ℕ) (count k : ℕ) → k < count
-    → namesOn t l count k ≡ name_at t (get_or l (6 + 2 * k) 0) (get_or l (6 + 2 * k + 1) 0) ∷ namesOn t l count (k + 1)
-unfolding namesOn namesFrom
-names-next t l count k h =
+pub names_next : (t l : List ℕ) (count k : ℕ) → k < count
+    → names_on t l count k ≡ name_at t (get_or l (6 + 2 * k) 0) (get_or l (6 + 2 * k + 1) 0) ∷ names_on t l count (k + 1)
+unfolding names_on names_from
+names_next t l count k h =
     let z : count - k ≡ suc (count - (k + 1)) = omega arith in
     let e : 6 + 2 * k + 2 ≡ 6 + 2 * (k + 1) = omega arith in
-    rw z (ap (λ (b : ℕ). name_at t (get_or l (6 + 2 * k) 0) (get_or l (6 + 2 * k + 1) 0) ∷ namesFrom t l b (count - (k + 1))) e)
+    rw z (ap (λ (b : ℕ). name_at t (get_or l (6 + 2 * k) 0) (get_or l (6 + 2 * k + 1) 0) ∷ names_from t l b (count - (k + 1))) e)
 
 -- ALL LINES, one after the other
 
 module _ (t l : List ℕ) (count : ℕ) where
   -- what is written from line k on stands behind what was written before
   abbrev pub Onward : (out : List ℕ) (at : ℕ) (out' : List ℕ) (at' k : ℕ) → Type 0
-  Onward out at out' at' k = (r : ℕ) (o : List ℕ) → Writes out' at' (variables k (namesOn t l count k)) r o → Writes out at (variables 0 (namesFrom t l 6 count)) r o
+  Onward out at out' at' k = (r : ℕ) (o : List ℕ) → Writes out' at' (variables k (names_on t l count k)) r o → Writes out at (variables 0 (names_from t l 6 count)) r o
 
-  pub onward-first : (out : List ℕ) (at : ℕ) → Onward out at out at 0
-  onward-first out at r o w = subst (λ (ns : List Name). Writes out at (variables 0 ns) r o) (names-first t l count) w
+  pub onward_first : (out : List ℕ) (at : ℕ) → Onward out at out at 0
+  onward_first out at r o w = subst (λ (ns : List Name). Writes out at (variables 0 ns) r o) (names_first t l count) w
 
-  pub split-line : (k : ℕ) → k < count
-      → variables k (namesOn t l count k) ≡ variable k (name_at t (get_or l (6 + 2 * k) 0) (get_or l (6 + 2 * k + 1) 0)) ++ variables (k + 1) (namesOn t l count (k + 1))
-  split-line k h =
-      ap (variables k) (names-next t l count k h) ∙ rw (add-one k) (variables-more k (name_at t (get_or l (6 + 2 * k) 0) (get_or l (6 + 2 * k + 1) 0)) (namesOn t l count (suc k)))
+  pub split_line : (k : ℕ) → k < count
+      → variables k (names_on t l count k) ≡ variable k (name_at t (get_or l (6 + 2 * k) 0) (get_or l (6 + 2 * k + 1) 0)) ++ variables (k + 1) (names_on t l count (k + 1))
+  split_line k h =
+      ap (variables k) (names_next t l count k h) ∙ rw (add-one k) (variables_more k (name_at t (get_or l (6 + 2 * k) 0) (get_or l (6 + 2 * k + 1) 0)) (names_on t l count (suc k)))
 
-  pub onward-more : (out : List ℕ) (at : ℕ) {o1 o2 : List ℕ} {a1 a2 : ℕ} (k : ℕ) → k < count
+  pub onward_more : (out : List ℕ) (at : ℕ) {o1 o2 : List ℕ} {a1 a2 : ℕ} (k : ℕ) → k < count
       → Writes o1 a1 (variable k (name_at t (get_or l (6 + 2 * k) 0) (get_or l (6 + 2 * k + 1) 0))) a2 o2 → Onward out at o1 a1 k → Onward out at o2 a2 (k + 1)
-  onward-more out at {o1} {o2} {a1} {a2} k h w f r o v =
-      f r o (subst (λ (bs : List ℕ). Writes o1 a1 bs r o) (sym (split-line k h)) (writes-both o1 a1 _ _ a2 r o2 o w v))
+  onward_more out at {o1} {o2} {a1} {a2} k h w f r o v =
+      f r o (subst (λ (bs : List ℕ). Writes o1 a1 bs r o) (sym (split_line k h)) (writes_both o1 a1 _ _ a2 r o2 o w v))
 
-  pub onward-last : (out : List ℕ) (at : ℕ) {o1 : List ℕ} {a1 : ℕ} (k : ℕ) → count ≤ k → Onward out at o1 a1 k → Writes out at (variables 0 (namesFrom t l 6 count)) a1 o1
+  pub onward_last : (out : List ℕ) (at : ℕ) {o1 : List ℕ} {a1 : ℕ} (k : ℕ) → count ≤ k → Onward out at o1 a1 k → Writes out at (variables 0 (names_from t l 6 count)) a1 o1
   unfolding variables
-  onward-last out at {o1} {a1} k h f = f a1 o1 (subst (λ (ns : List Name). Writes o1 a1 (variables k ns) a1 o1) (sym (names-none t l count k h)) (writes-none o1 a1))
+  onward_last out at {o1} {a1} k h f = f a1 o1 (subst (λ (ns : List Name). Writes o1 a1 (variables k ns) a1 o1) (sym (names-none t l count k h)) (writes-none o1 a1))
 
   -- there is room for the line and for those behind it
-  pub line-fits : (a k m : ℕ) → k < count → a + length (variables k (namesOn t l count k)) ≤ m
-      → a + length (variable k (name_at t (get_or l (6 + 2 * k) 0) (get_or l (6 + 2 * k + 1) 0))) + length (variables (k + 1) (namesOn t l count (k + 1))) ≤ m
-  line-fits a k m h g =
-      let e = ap length (split-line k h) ∙ length-append (variable k (name_at t (get_or l (6 + 2 * k) 0) (get_or l (6 + 2 * k + 1) 0))) (variables (k + 1) (namesOn t l count (k + 1))) in
+  pub line_fits : (a k m : ℕ) → k < count → a + length (variables k (names_on t l count k)) ≤ m
+      → a + length (variable k (name_at t (get_or l (6 + 2 * k) 0) (get_or l (6 + 2 * k + 1) 0))) + length (variables (k + 1) (names_on t l count (k + 1))) ≤ m
+  line_fits a k m h g =
+      let e = ap length (split_line k h) ∙ length-append (variable k (name_at t (get_or l (6 + 2 * k) 0) (get_or l (6 + 2 * k + 1) 0))) (variables (k + 1) (names_on t l count (k + 1))) in
       omega arith
 
 -- THE WHOLE HEADER
@@ -123,45 +123,45 @@ pub header-written : {out o1 o2 o3 o4 o5 : List ℕ} {b c d e r : ℕ} {n : Name
     → Writes out 0 (header n ns) r o5
 unfolding header
 header-written {out} {o1} {o2} {o3} {o4} {o5} {b} {c} {d} {e} {r} {n} ns w1 w2 w3 w4 w5 =
-    writes-both out 0 (bytes "$timescale 1 fs $end\n$scope module ") _ b r o1 o5 w1
-    (writes-both o1 b n _ c r o2 o5 w2
-    (writes-both o2 c (bytes " $end\n") _ d r o3 o5 w3
-    (writes-both o3 d (variables 0 ns) (bytes "$upscope $end\n$enddefinitions $end\n") e r o4 o5 w4 w5)))
+    writes_both out 0 (bytes "$timescale 1 fs $end\n$scope module ") _ b r o1 o5 w1
+    (writes_both o1 b n _ c r o2 o5 w2
+    (writes_both o2 c (bytes " $end\n") _ d r o3 o5 w3
+    (writes_both o3 d (variables 0 ns) (bytes "$upscope $end\n$enddefinitions $end\n") e r o4 o5 w4 w5)))
 
 stands_of : {s l : List ℕ} {y : State} → Keeps 0 s l (fine y) → Standing 0 s l y
-stands_of (keepsFine x) = x
+stands_of (keeps_fine x) = x
 
 module _ {s l : List ℕ} (v : Survey s l) where
-  pub survey-shelf : Shelf s l 6 (get_or l 2 0) × (get_or l 2 0 ≤ 64)
-  survey-shelf = let y = stands_of v.keeps in (y.signals, y.fewSignals)
+  pub survey_shelf : Shelf s l 6 (get_or l 2 0) × (get_or l 2 0 ≤ 64)
+  survey_shelf = let y = stands_of v.keeps in (y.signals, y.few_signals)
 
-  pub survey-names : namesFrom s l 6 (get_or l 2 0) ≡ signalNames v.tree
-  survey-names = sym (stands_of v.keeps).signalsAre ∙ v.names
+  pub survey_names : names_from s l 6 (get_or l 2 0) ≡ signal_names v.tree
+  survey_names = sym (stands_of v.keeps).signals_are ∙ v.names
 
-  pub survey-fits : (own : Look) → own ≡ look_of s (word_of s beginning 0).at
-      → 35 + (length (name_at s own.start own.end) + (6 + (length (variables 0 (namesFrom s l 6 (get_or l 2 0))) + 35))) ≤ 4096
-  unfolding designHeader
-  survey-fits own e =
-      let n : name_at s own.start own.end ≡ entityName v.tree = ap (λ (t : Look). name_at s t.start t.end) e ∙ sym v.named in
-      rw (n, survey-names) (subst (λ (m : ℕ). m ≤ 4096) (header-length (entityName v.tree) (signalNames v.tree)) (accepted-header-fits s v.tree v.gets))
+  pub survey_fits : (own : Look) → own ≡ look_of s (word_of s beginning 0).at
+      → 35 + (length (name_at s own.start own.end) + (6 + (length (variables 0 (names_from s l 6 (get_or l 2 0))) + 35))) ≤ 4096
+  unfolding design_header
+  survey_fits own e =
+      let n : name_at s own.start own.end ≡ entity_name v.tree = ap (λ (t : Look). name_at s t.start t.end) e ∙ sym v.named in
+      rw (n, survey_names) (subst (λ (m : ℕ). m ≤ 4096) (header-length (entity_name v.tree) (signal_names v.tree)) (accepted-header-fits s v.tree v.gets))
 
-  pub survey-shows : {out after : List ℕ} {r : ℕ} (own : Look) → own ≡ look_of s (word_of s beginning 0).at → bufferBytes ≤ length out
-      → Writes out 0 (header (name_at s own.start own.end) (namesFrom s l 6 (get_or l 2 0))) r after → Shows s out r after
-  survey-shows {out} {after} {r} own e h w =
-      let n : name_at s own.start own.end ≡ entityName v.tree = ap (λ (t : Look). name_at s t.start t.end) e ∙ sym v.named in
-      let x : Writes out 0 (header (entityName v.tree) (signalNames v.tree)) r after = rw (n, survey-names) at w in
+  pub survey_shows : {out after : List ℕ} {r : ℕ} (own : Look) → own ≡ look_of s (word_of s beginning 0).at → buffer_bytes ≤ length out
+      → Writes out 0 (header (name_at s own.start own.end) (names_from s l 6 (get_or l 2 0))) r after → Shows s out r after
+  survey_shows {out} {after} {r} own e h w =
+      let n : name_at s own.start own.end ≡ entity_name v.tree = ap (λ (t : Look). name_at s t.start t.end) e ∙ sym v.named in
+      let x : Writes out 0 (header (entity_name v.tree) (signal_names v.tree)) r after = rw (n, survey_names) at w in
       record { long = h; tree = v.tree; gets = v.gets; counted = x.end ∙ omega arith; bytes = x.bytes }
 
 -- by the answer of the survey
 
-refused-in : {s l : List ℕ} {number place : ℕ} → Surveyed s (Refused number place) l → Gets s (refuses number place)
-refused-in (refusedAs g) = g
+refused_in : {s l : List ℕ} {number place : ℕ} → Surveyed s (Refused number place) l → Gets s (refuses number place)
+refused_in (refused_as g) = g
 
-pub survey-refused : {s l : List ℕ} {r : Checked} {number place : ℕ} → Surveyed s r l → r ≡ Refused number place → Gets s (refuses number place)
-survey-refused d e = refused-in (rw e at d)
+pub survey_refused : {s l : List ℕ} {r : Checked} {number place : ℕ} → Surveyed s r l → r ≡ Refused number place → Gets s (refuses number place)
+survey_refused d e = refused_in (rw e at d)
 
-accepted-in : {s l : List ℕ} → Surveyed s Accepted l → Survey s l
-accepted-in (acceptedAs x) = x
+accepted_in : {s l : List ℕ} → Surveyed s Accepted l → Survey s l
+accepted_in (accepted_as x) = x
 
-pub survey-accepted : {s l : List ℕ} {r : Checked} → Surveyed s r l → r ≡ Accepted → Survey s l
-survey-accepted d e = accepted-in (rw e at d)
+pub survey_accepted : {s l : List ℕ} {r : Checked} → Surveyed s r l → r ≡ Accepted → Survey s l
+survey_accepted d e = accepted_in (rw e at d)

@@ -4,14 +4,14 @@ use mathlib.Core.Path.{◌≡◌, subst}
 use mathlib.Core.List.{List}
 use native.Mathlib.Omega.{arith}
 use Rattle.names.proofs.Places.{refused-number, refused-early}
-use Rattle.demands.specs.Shown.{designHeader}
+use Rattle.demands.specs.Shown.{design_header}
 use Rattle.demands.proofs.Header.{accepted-header-fits}
 use Rattle.heading.specs.declared.Headed.{Headed}
 use Rattle.heading.specs.declared.Headed.TheVariants.{Written, Refused}
 use Rattle.heading.specs.Headed.{RefusedWith, short, turned, Shows, Heads}
 
 shows-small : {text out after : List ℕ} {bytes : ℕ} → Shows text out bytes after → bytes ≤ 4096
-unfolding designHeader
+unfolding design_header
 shows-small {text} s = rw s.counted (accepted-header-fits text s.tree s.gets)
 
 refused-small : {text out : List ℕ} {number place : ℕ} → RefusedWith text out number place → (number ≤ 11) × (place ≤ 60000)
@@ -22,5 +22,5 @@ module _ (text out after : List ℕ) (a : Headed) (h : Heads text out a after) w
   pub header-small : {bytes : ℕ} → a ≡ Written bytes → bytes ≤ 4096
   header-small e = shows-small (subst (λ b. Heads text out b after) e h)
 
-  pub refusal-small : {number place : ℕ} → a ≡ Refused number place → (number ≤ 11) × (place ≤ 60000)
-  refusal-small e = refused-small (subst (λ b. Heads text out b after) e h).0
+  pub refusal_small : {number place : ℕ} → a ≡ Refused number place → (number ≤ 11) × (place ≤ 60000)
+  refusal_small e = refused-small (subst (λ b. Heads text out b after) e h).0

@@ -1,11 +1,11 @@
 // The dump's header of a text, written to a lent buffer.
 ghost use Rattle.std.specs.Prelude.{◌∷◌, [], ◌+◌, ◌≤◌, ◌<◌, length};
 ghost use Rattle.words.specs.Vocabulary.{lower as lowerCase};
-ghost use Rattle.rules.specs.Sizes.{bufferBytes};
+ghost use Rattle.rules.specs.Sizes.{buffer_bytes};
 ghost use Rattle.rules.specs.Dump.{variables};
 ghost use Rattle.reader.specs.Inside.Designs.{Survey};
 ghost use Rattle.look.specs.Inside.Looks.{name_at};
-ghost use Rattle.ledger.specs.Inside.Standing.{Span, Shelf, namesFrom};
+ghost use Rattle.ledger.specs.Inside.Standing.{Span, Shelf, names_from};
 ghost use Rattle.writing.specs.Inside.Written.{Writes};
 ghost use Rattle.heading.specs.Headed.{Shows, Heads};
 ghost use Rattle.heading.specs.Inside.Lines.{variable};
@@ -71,8 +71,8 @@ fn line(out: &mut [u8], at: usize, k: u8, text: &[u8], start: usize, end: usize)
 // The lines of all signals.
 fn lines(out: &mut [u8], at: usize, text: &[u8], ledger: &[u64; 328], count: usize) -> usize
     requires shelf { Shelf text.now ledger.now 6 count × (count ≤ 64) }
-    requires count_in_bounds { at + length (variables 0 (namesFrom text.now ledger.now 6 count)) ≤ length out.old }
-    ensures { Writes out.old at (variables 0 (namesFrom text.now ledger.now 6 count)) result out.new }
+    requires count_in_bounds { at + length (variables 0 (names_from text.now ledger.now 6 count)) ≤ length out.old }
+    ensures { Writes out.old at (variables 0 (names_from text.now ledger.now 6 count)) result out.new }
 {
     let mut place = at;
     let mut k = 0;
@@ -87,7 +87,7 @@ fn lines(out: &mut [u8], at: usize, text: &[u8], ledger: &[u64; 328], count: usi
 
 // The header of an accepted text.
 fn show(out: &mut [u8], text: &[u8], ledger: &[u64; 328]) -> usize
-    requires { Survey text.now ledger.now × (bufferBytes ≤ length out.old) }
+    requires { Survey text.now ledger.now × (buffer_bytes ≤ length out.old) }
     ensures { Shows text.now out.old result out.new }
 {
     let first = Spot {

@@ -8,15 +8,15 @@ use Rattle.laws.specs.Decides.{Decides}
 pub differ : {A : Type 0} → true ≡ false → A
 differ e = absurd (let z : ◌≡◌ {A = ℕ} 0 1 = cc in omega arith)
 
-pub decides-yes : (P : Type 0) → P → Decides true P
-decides-yes P p = record { holds = λ e. p; fails = λ e. differ e }
+pub decides_yes : (P : Type 0) → P → Decides true P
+decides_yes P p = record { holds = λ e. p; fails = λ e. differ e }
 
-pub decides-no : (P : Type 0) → (P → ⊥) → Decides false P
-decides-no P n = record { holds = λ e. differ (sym e); fails = λ e. n }
+pub decides_no : (P : Type 0) → (P → ⊥) → Decides false P
+decides_no P n = record { holds = λ e. differ (sym e); fails = λ e. n }
 
 -- a fact that is another where the answer is asked
-pub decides-as : (r : Bool) (P Q : Type 0) → (P → Q) → (Q → P) → Decides r P → Decides r Q
-decides-as r P Q f g d = record { holds = λ e. f (d.holds e); fails = λ e q. d.fails e (g q) }
+pub decides_as : (r : Bool) (P Q : Type 0) → (P → Q) → (Q → P) → Decides r P → Decides r Q
+decides_as r P Q f g d = record { holds = λ e. f (d.holds e); fails = λ e q. d.fails e (g q) }
 
 -- no second answer fits
 pub one_answer : (r s : Bool) (P : Type 0) → Decides r P → Decides s P → r ≡ s

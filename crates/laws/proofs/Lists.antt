@@ -25,12 +25,12 @@ unfolding same_list
 same_refl [] = refl
 same_refl (x ∷ xs) = rw (eq-eqb x x refl) (same_refl xs)
 
-pub same-equal : (xs ys : List ℕ) → same_list xs ys ≡ true → xs ≡ ys
+pub same_equal : (xs ys : List ℕ) → same_list xs ys ≡ true → xs ≡ ys
 unfolding same_list
-same-equal [] [] e = refl
-same-equal [] (y ∷ ys) e = let z : ◌≡◌ {A = ℕ} 0 1 = cc in absurd (omega arith)
-same-equal (x ∷ xs) [] e = let z : ◌≡◌ {A = ℕ} 0 1 = cc in absurd (omega arith)
-same-equal (x ∷ xs) (y ∷ ys) e = go (eqb x y) refl e (same-equal xs ys)
+same_equal [] [] e = refl
+same_equal [] (y ∷ ys) e = let z : ◌≡◌ {A = ℕ} 0 1 = cc in absurd (omega arith)
+same_equal (x ∷ xs) [] e = let z : ◌≡◌ {A = ℕ} 0 1 = cc in absurd (omega arith)
+same_equal (x ∷ xs) (y ∷ ys) e = go (eqb x y) refl e (same_equal xs ys)
   where
     go : (t : Bool) → eqb x y ≡ t → pick t (same_list xs ys) false ≡ true → (same_list xs ys ≡ true → xs ≡ ys) → x ∷ xs ≡ y ∷ ys
     go true p q f = let h = eqb-true x y p in let t = f q in cc
@@ -51,7 +51,7 @@ copied_more out at i text mid l e =
     rw (take-suc text i 0 l, sets-append out at (take i text) (get_or text i 0 ∷ []), ← e)
     (ap (λ j. set mid (at + j) (get_or text i 0)) (sym (length-take i text ∙ omega arith)))
 
-pub zero-at : (n i : ℕ) → ◌≡◌ {A = ℕ} (get_or (replicate n 0) i 0) 0
-zero-at zero i = refl
-zero-at (suc n) zero = refl
-zero-at (suc n) (suc i) = zero-at n i
+pub zero_at : (n i : ℕ) → ◌≡◌ {A = ℕ} (get_or (replicate n 0) i 0) 0
+zero_at zero i = refl
+zero_at (suc n) zero = refl
+zero_at (suc n) (suc i) = zero_at n i

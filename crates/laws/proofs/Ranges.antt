@@ -36,7 +36,7 @@ ranged low high n = go (leb low n) (leb n high) refl refl
     go false q d e = below (rw d) (leb-false low n d)
 
 -- what holds of each place of a part, counted from its first, holds of each place in it
-pub in-part : (P : ℕ → Type 0) (from size i : ℕ) → ((k : ℕ) → k < size → P (from + k)) → from ≤ i → i < from + size → P i
-in-part P from size i h lo hi =
+pub in_part : (P : ℕ → Type 0) (from size i : ℕ) → ((k : ℕ) → k < size → P (from + k)) → from ≤ i → i < from + size → P i
+in_part P from size i h lo hi =
     let q : from + (i - from) ≡ i = omega arith in
     subst P q (h (i - from) (omega arith))

@@ -15,6 +15,6 @@ pub first_passes : (a b : Bool) → T (pick a b false) → a ≡ true
 first_passes true b t = refl
 first_passes false b t = absurd t
 
-pub others-pass : (a b : Bool) → T (pick a b false) → T b
-others-pass true b t = t
-others-pass false b t = absurd t
+pub others_pass : (a b : Bool) → T (pick a b false) → T b
+others_pass true b t = t
+others_pass false b t = absurd t

@@ -10,49 +10,49 @@ use Rattle.layout.specs.TableWords.{column}
 -- WHERE WHAT STANDS
 
 -- words 0 and 1: how many signals there are, and the time
-abbrev pub countAt : ℕ
-countAt = 0
+abbrev pub count_at : ℕ
+count_at = 0
 
-abbrev pub timeAt : ℕ
-timeAt = 1
+abbrev pub time_at : ℕ
+time_at = 1
 
 -- 64 words each: values, and how many changes are pending for each signal; then 16 words of changes for each signal
-abbrev pub valuesFrom : ℕ
-valuesFrom = 2
+abbrev pub values_from : ℕ
+values_from = 2
 
-abbrev pub pendingFrom : ℕ
-pendingFrom = 66
+abbrev pub pending_from : ℕ
+pending_from = 66
 
-abbrev pub changesFrom : ℕ
-changesFrom = 130
+abbrev pub changes_from : ℕ
+changes_from = 130
 
-abbrev pub sessionSize : ℕ
-sessionSize = 1154
+abbrev pub session_size : ℕ
+session_size = 1154
 
 -- a change is twice its time, and one more where its value is true
-abbrev pub changeWord : Change → ℕ
-changeWord c = 2 * c.time + number c.value
+abbrev pub change_word : Change → ℕ
+change_word c = 2 * c.time + number c.value
 
 -- THE WORDS OF A SESSION
 
 -- 16 words for each signal: word j of signal k stands at 16 * k + j
-abbrev pub changeColumns : ℕ → List (List Change) → List ℕ
-changeColumns signals pending = tabulate (λ n. get_or (map changeWord (get_or pending (n / 16) [])) (n % 16) 0) 0 (16 * signals)
+abbrev pub change_columns : ℕ → List (List Change) → List ℕ
+change_columns signals pending = tabulate (λ n. get_or (map change_word (get_or pending (n / 16) [])) (n % 16) 0) 0 (16 * signals)
 
-unfoldable pub sessionWords : Session → List ℕ
-sessionWords s =
+unfoldable pub session_words : Session → List ℕ
+session_words s =
     length s.values ∷ s.time
-    ∷ column 64 (map number s.values) ++ (column 64 (map length s.pending) ++ changeColumns 64 s.pending)
+    ∷ column 64 (map number s.values) ++ (column 64 (map length s.pending) ++ change_columns 64 s.pending)
 
 -- the words hold s, whatever stands behind them
 pub record HoldsSession (words : List ℕ) (s : Session) : Type 0 where
-  pub long : sessionSize ≤ length words
+  pub long : session_size ≤ length words
   pub agree : length s.pending ≡ length s.values
-  pub count : get_or words countAt 0 ≡ length s.values
-  pub time : get_or words timeAt 0 ≡ s.time
-  pub values : (k : ℕ) → k < 64 → get_or words (valuesFrom + k) 0 ≡ get_or (map number s.values) k 0
-  pub pending : (k : ℕ) → k < 64 → get_or words (pendingFrom + k) 0 ≡ get_or (map length s.pending) k 0
-  pub changes : (k j : ℕ) → k < 64 → j < 16 → get_or words (changesFrom + 16 * k + j) 0 ≡ get_or (map changeWord (get_or s.pending k [])) j 0
+  pub count : get_or words count_at 0 ≡ length s.values
+  pub time : get_or words time_at 0 ≡ s.time
+  pub values : (k : ℕ) → k < 64 → get_or words (values_from + k) 0 ≡ get_or (map number s.values) k 0
+  pub pending : (k : ℕ) → k < 64 → get_or words (pending_from + k) 0 ≡ get_or (map length s.pending) k 0
+  pub changes : (k j : ℕ) → k < 64 → j < 16 → get_or words (changes_from + 16 * k + j) 0 ≡ get_or (map change_word (get_or s.pending k [])) j 0
 
 -- the words are fit for a table: they hold a session that is
 pub record FitSessionWords (t : Table) (words : List ℕ) : Type 0 where
@@ -61,5 +61,5 @@ pub record FitSessionWords (t : Table) (words : List ℕ) : Type 0 where
   pub fit : FitSession (runners t) (length t.initial) session
 
 -- a change to true at 3 fs
-change-at-3 : changeWord (change 3 true) ≡ 7
-change-at-3 = refl
+change_at_3 : change_word (change 3 true) ≡ 7
+change_at_3 = refl

@@ -6,8 +6,8 @@ ghost use Rattle.laws.specs.Pick.{pick, within, same_list};
 ghost use Rattle.words.specs.Integer.{value_of};
 ghost use Rattle.look.specs.Inside.Looks.{part, name_at};
 ghost use Rattle.names.specs.Roles.{Role, declares, labels, listens, reads, assigns, belongs, closes, opens, delays, counts};
-ghost use Rattle.names.specs.Judge.{State, nothingYet, fine, refused, judge};
-ghost use Rattle.ledger.specs.Inside.Standing.{Span, Shelf, Keeps, Sound, Held, Judges, Numbers, Lasts, usedIn, nameOption};
+ghost use Rattle.names.specs.Judge.{State, nothing_yet, fine, refused, judge};
+ghost use Rattle.ledger.specs.Inside.Standing.{Span, Shelf, Keeps, Sound, Held, Judges, Numbers, Lasts, used_in, name_option};
 
 use crate::shelf::{add, find, refuse};
 use words::integer::time_of;
@@ -36,7 +36,7 @@ const DRIVERS: usize = 264;
 
 // The ledger before the first token.
 pub fn fresh() -> [u64; 328]
-    ensures { (text : List ℕ) → Keeps 0 text result (fine nothingYet) }
+    ensures { (text : List ℕ) → Keeps 0 text result (fine nothing_yet) }
 {
     [0u64; 328]
 }
@@ -46,7 +46,7 @@ fn is_used(text: &[u8], ledger: &[u64; 328], start: usize, end: usize) -> bool
     requires shelf { Shelf text.now ledger.now 6 (get_or ledger.now 2 0) }
     requires shelf_2 { Shelf text.now ledger.now 134 (get_or ledger.now 3 0) }
     requires span { Span text.now start end }
-    ensures { result ≡ usedIn text.now ledger.now (name_at text.now start end) }
+    ensures { result ≡ used_in text.now ledger.now (name_at text.now start end) }
 {
     let signals = ledger[SIGNALS] as usize;
     if find(text, ledger, SIGNAL_NAMES, signals, start, end) < signals {
@@ -242,7 +242,7 @@ pub fn belong(
 pub fn close(text: &[u8], ledger: &mut [u64; 328], from: usize, to: usize, start: usize, end: usize)
     requires sound { Sound 0 text.now ledger.old }
     requires span { Span text.now from to × Span text.now start end × (start < end) }
-    ensures { Judges 0 0 text.now (closes (nameOption text.now from to) (name_at text.now start end)) start ledger.old ledger.new }
+    ensures { Judges 0 0 text.now (closes (name_option text.now from to) (name_at text.now start end)) start ledger.old ledger.new }
 {
     expect(text, ledger, 7, from, to, start, end);
 }

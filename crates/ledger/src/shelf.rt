@@ -1,9 +1,9 @@
 // Names kept in a ledger by their places in the text: each is two words, where it starts and where it ends.
 ghost use Rattle.std.specs.Prelude.{◌≡◌, ◌+◌, ◌<◌, ◌≤◌, length, get_or, set};
-ghost use Rattle.words.specs.Vocabulary.{sameWord};
+ghost use Rattle.words.specs.Vocabulary.{same_word};
 ghost use Rattle.look.specs.Inside.Looks.{part, name_at};
 ghost use Rattle.names.specs.Judge.{number_of};
-ghost use Rattle.ledger.specs.Inside.Standing.{Span, Shelf, namesFrom, added};
+ghost use Rattle.ledger.specs.Inside.Standing.{Span, Shelf, names_from, added};
 
 use words::vocabulary::same_word;
 
@@ -12,7 +12,7 @@ fn is_same(text: &[u8], ledger: &[u64; 328], at: usize, start: usize, end: usize
     requires ledger_len { (length ledger.now ≡ 328) × (at + 1 < 328) }
     requires span { Span text.now (get_or ledger.now at 0) (get_or ledger.now (at + 1) 0) }
     requires span_2 { Span text.now start end }
-    ensures { result ≡ sameWord (part text.now (get_or ledger.now at 0) (get_or ledger.now (at + 1) 0)) (part text.now start end) }
+    ensures { result ≡ same_word (part text.now (get_or ledger.now at 0) (get_or ledger.now (at + 1) 0)) (part text.now start end) }
 {
     let from = ledger[at] as usize;
     let to = ledger[at + 1] as usize;
@@ -30,7 +30,7 @@ pub fn find(
 ) -> usize
     requires shelf { Shelf text.now ledger.now base count }
     requires span { Span text.now start end }
-    ensures { result ≡ number_of (name_at text.now start end) (namesFrom text.now ledger.now base count) }
+    ensures { result ≡ number_of (name_at text.now start end) (names_from text.now ledger.now base count) }
 {
     let mut i = 0;
     while i < count {

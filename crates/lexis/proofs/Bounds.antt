@@ -9,11 +9,11 @@ use native.Mathlib.Nat.{le_refl}
 use borrow.Author.Tests.{eqb-true, eqb-false}
 use lib.Dec.{eqb}
 use lib.ListN.{length, drop, take, get_or, length-drop}
-use Rattle.laws.proofs.Picks.{pick-both}
-use Rattle.lexis.specs.Byte.{classOf, byClass, inRun}
-use Rattle.lexis.specs.Blank.{dashesOf, step_of, onStep, skipFrom}
-use Rattle.lexis.specs.Run.{runLength, shape_of}
-use Rattle.lexis.specs.Token.{mark_of, runToken, lexemeOf, placed_at, onSkipped, scanOf}
+use Rattle.laws.proofs.Picks.{pick_both}
+use Rattle.lexis.specs.Byte.{class_of, by_class, in_run}
+use Rattle.lexis.specs.Blank.{dashes_of, step_of, on_step, skip_from}
+use Rattle.lexis.specs.Run.{run_length, shape_of}
+use Rattle.lexis.specs.Token.{mark_of, run_token, lexeme_of, placed_at, on_skipped, scan_of}
 use Rattle.lexis.specs.declared.byte.Class.{Class}
 use Rattle.lexis.specs.declared.byte.Class.TheVariants.{Letter, Digit, Underscore, Space, LineEnd, Mark, Other, High}
 use Rattle.lexis.specs.declared.blank.Step.{Step}
@@ -30,18 +30,18 @@ use Rattle.lexis.specs.declared.token.Scan.TheVariants.{Token as scanned, End, R
 
 -- RUNS
 
-pub run-within : (i : ℕ) (s : List ℕ) → (i ≤ runLength i s) × (runLength i s ≤ i + length s)
-unfolding runLength
+pub run-within : (i : ℕ) (s : List ℕ) → (i ≤ run_length i s) × (run_length i s ≤ i + length s)
+unfolding run_length
 run-within i [] = (le_refl i, omega arith)
 run-within i (b ∷ s) =
     let h = run-within (i + 1) s in
-    pick-both (λ (n : ℕ). (i ≤ n) × (n ≤ i + length (b ∷ s))) (inRun (classOf b)) (runLength (i + 1) s) i
+    pick_both (λ (n : ℕ). (i ≤ n) × (n ≤ i + length (b ∷ s))) (in_run (class_of b)) (run_length (i + 1) s) i
     (λ e. (omega (arith, h.0), omega (arith, h.1))) (λ e. (le_refl i, omega arith))
 
-run-some : (s : List ℕ) → (length s ≡ 0 → ⊥) → inRun (classOf (get_or s 0 0)) ≡ true → 0 < runLength 0 s
-unfolding runLength
-run-some [] z t = absurd (z refl)
-run-some (b ∷ s) z t = rw t (omega (arith, (run-within (0 + 1) s).0))
+run_some : (s : List ℕ) → (length s ≡ 0 → ⊥) → in_run (class_of (get_or s 0 0)) ≡ true → 0 < run_length 0 s
+unfolding run_length
+run_some [] z t = absurd (z refl)
+run_some (b ∷ s) z t = rw t (omega (arith, (run-within (0 + 1) s).0))
 
 -- BLANKS
 
@@ -49,17 +49,17 @@ abbrev pub place_of : Skipped → ℕ
 place_of (To n) = n
 place_of (skipRefused n) = n
 
-on_step : (r : Step) (p q : Skipped) (i k : ℕ) → place_of p ≤ k → place_of q ≤ k → i ≤ k → place_of (onStep r p q (To i) (skipRefused i)) ≤ k
-on_step (Pass true) p q i k a b h = a
-on_step (Pass false) p q i k a b h = b
-on_step Stop p q i k a b h = h
-on_step Refuse p q i k a b h = h
+on_step_lem : (r : Step) (p q : Skipped) (i k : ℕ) → place_of p ≤ k → place_of q ≤ k → i ≤ k → place_of (on_step r p q (To i) (skipRefused i)) ≤ k
+on_step_lem (Pass true) p q i k a b h = a
+on_step_lem (Pass false) p q i k a b h = b
+on_step_lem Stop p q i k a b h = h
+on_step_lem Refuse p q i k a b h = h
 
-pub skip-within : (m : Bool) (i : ℕ) (s : List ℕ) → place_of (skipFrom m i s) ≤ i + length s
-unfolding skipFrom
+pub skip-within : (m : Bool) (i : ℕ) (s : List ℕ) → place_of (skip_from m i s) ≤ i + length s
+unfolding skip_from
 skip-within m i [] = omega arith
 skip-within m i (b ∷ s) =
-    on_step (step_of m (classOf b) (dashesOf (b ∷ s))) (skipFrom true (i + 1) s) (skipFrom false (i + 1) s) i (i + length (b ∷ s))
+    on_step_lem (step_of m (class_of b) (dashes_of (b ∷ s))) (skip_from true (i + 1) s) (skip_from false (i + 1) s) i (i + length (b ∷ s))
     (omega (arith, skip-within true (i + 1) s)) (omega (arith, skip-within false (i + 1) s)) (omega arith)
 
 -- TOKENS
@@ -70,7 +70,7 @@ Fits n (lexeme kind length) = (0 < length) × (length ≤ n)
 Fits n Nothing = Unit {0}
 Fits n Refused = Unit {0}
 
-run_fits : (n l : ℕ) (w : Shape) → 0 < l → l ≤ n → Fits n (runToken w l)
+run_fits : (n l : ℕ) (w : Shape) → 0 < l → l ≤ n → Fits n (run_token w l)
 run_fits n l Word a b = (a, b)
 run_fits n l Integer a b = (a, b)
 run_fits n l Broken a b = tt
@@ -81,40 +81,40 @@ second [] e = absurd (omega (arith, eqb-true 0 61 e))
 second (a ∷ []) e = absurd (omega (arith, eqb-true 0 61 e))
 second (a ∷ b ∷ s) e = omega arith
 
-mark-fits : (s : List ℕ) → (length s ≡ 0 → ⊥) → Fits (length s) (mark_of (get_or s 0 0) (get_or s 1 0))
+mark_fits : (s : List ℕ) → (length s ≡ 0 → ⊥) → Fits (length s) (mark_of (get_or s 0 0) (get_or s 1 0))
 unfolding mark_of
-mark-fits s z =
+mark_fits s z =
     let one : 1 ≤ length s = omega (arith, z) in
     let single : (0 < 1) × (1 ≤ length s) = (omega arith, one) in
     let F = Fits (length s) in
     let a = get_or s 0 0 in
     let u = eqb (get_or s 1 0) 61 in
-    pick-both F (eqb a 40) (lexeme Open 1) _ (λ _. single) (λ _.
-    pick-both F (eqb a 41) (lexeme Close 1) _ (λ _. single) (λ _.
-    pick-both F (eqb a 44) (lexeme Comma 1) _ (λ _. single) (λ _.
-    pick-both F (eqb a 59) (lexeme Semicolon 1) _ (λ _. single) (λ _.
-    pick-both F (eqb a 58) _ _ (λ _. pick-both F u (lexeme Becomes 2) (lexeme Colon 1) (λ e. (omega arith, second s e)) (λ _. single)) (λ _.
-    pick-both F (eqb a 60) _ _ (λ _. pick-both F u (lexeme Arrow 2) Refused (λ e. (omega arith, second s e)) (λ _. tt)) (λ _. tt))))))
+    pick_both F (eqb a 40) (lexeme Open 1) _ (λ _. single) (λ _.
+    pick_both F (eqb a 41) (lexeme Close 1) _ (λ _. single) (λ _.
+    pick_both F (eqb a 44) (lexeme Comma 1) _ (λ _. single) (λ _.
+    pick_both F (eqb a 59) (lexeme Semicolon 1) _ (λ _. single) (λ _.
+    pick_both F (eqb a 58) _ _ (λ _. pick_both F u (lexeme Becomes 2) (lexeme Colon 1) (λ e. (omega arith, second s e)) (λ _. single)) (λ _.
+    pick_both F (eqb a 60) _ _ (λ _. pick_both F u (lexeme Arrow 2) Refused (λ e. (omega arith, second s e)) (λ _. tt)) (λ _. tt))))))
 
-by-class : (n : ℕ) (k : Class) (run mark : Lexeme) → (inRun k ≡ true → Fits n run) → Fits n mark
-    → Fits n (byClass k run run run Refused Refused mark Refused Refused)
-by-class n Letter run mark p q = p refl
-by-class n Digit run mark p q = p refl
-by-class n Underscore run mark p q = p refl
-by-class n Space run mark p q = tt
-by-class n LineEnd run mark p q = tt
-by-class n Mark run mark p q = q
-by-class n Other run mark p q = tt
-by-class n High run mark p q = tt
+by_class_lem : (n : ℕ) (k : Class) (run mark : Lexeme) → (in_run k ≡ true → Fits n run) → Fits n mark
+    → Fits n (by_class k run run run Refused Refused mark Refused Refused)
+by_class_lem n Letter run mark p q = p refl
+by_class_lem n Digit run mark p q = p refl
+by_class_lem n Underscore run mark p q = p refl
+by_class_lem n Space run mark p q = tt
+by_class_lem n LineEnd run mark p q = tt
+by_class_lem n Mark run mark p q = q
+by_class_lem n Other run mark p q = tt
+by_class_lem n High run mark p q = tt
 
-pub lexeme-fits : (s : List ℕ) → Fits (length s) (lexemeOf s)
-unfolding lexemeOf
-lexeme-fits s =
-    pick-both (Fits (length s)) (eqb (length s) 0) Nothing _ (λ e. tt)
+pub lexeme_fits : (s : List ℕ) → Fits (length s) (lexeme_of s)
+unfolding lexeme_of
+lexeme_fits s =
+    pick_both (Fits (length s)) (eqb (length s) 0) Nothing _ (λ e. tt)
     (λ e. let z : length s ≡ 0 → ⊥ = eqb-false (length s) 0 e in
-    by-class (length s) (classOf (get_or s 0 0)) _ _
-    (λ t. run_fits (length s) (runLength 0 s) (shape_of (take (runLength 0 s) s)) (run-some s z t) (omega (arith, (run-within 0 s).1)))
-    (mark-fits s z))
+    by_class_lem (length s) (class_of (get_or s 0 0)) _ _
+    (λ t. run_fits (length s) (run_length 0 s) (shape_of (take (run_length 0 s) s)) (run_some s z t) (omega (arith, (run-within 0 s).1)))
+    (mark_fits s z))
 
 -- what is found in a text of n bytes
 abbrev pub Within : ℕ → Scan → Type 0
@@ -127,15 +127,15 @@ placed-within n i (lexeme kind l) h f = (f.0, omega (arith, f.1))
 placed-within n i Nothing h f = tt
 placed-within n i Refused h f = h
 
-on-skipped : (r : Skipped) (s : List ℕ) → place_of r ≤ length s → Within (length s) (onSkipped r s)
-on-skipped (To n) s h =
-    placed-within (length s) n (lexemeOf (drop n s)) h (subst (λ (m : ℕ). Fits m (lexemeOf (drop n s))) (length-drop n s) (lexeme-fits (drop n s)))
-on-skipped (skipRefused n) s h = h
+on_skipped_lem : (r : Skipped) (s : List ℕ) → place_of r ≤ length s → Within (length s) (on_skipped r s)
+on_skipped_lem (To n) s h =
+    placed-within (length s) n (lexeme_of (drop n s)) h (subst (λ (m : ℕ). Fits m (lexeme_of (drop n s))) (length-drop n s) (lexeme_fits (drop n s)))
+on_skipped_lem (skipRefused n) s h = h
 
-pub scan-within : (s : List ℕ) → Within (length s) (scanOf s)
-unfolding scanOf
-scan-within s = on-skipped (skipFrom false 0 s) s (omega (arith, skip-within false 0 s))
+pub scan_within : (s : List ℕ) → Within (length s) (scan_of s)
+unfolding scan_of
+scan_within s = on_skipped_lem (skip_from false 0 s) s (omega (arith, skip-within false 0 s))
 
 -- of the rest of a text, from place n on
-pub rest-within : (s : List ℕ) (n : ℕ) (r : Scan) → scanOf (drop n s) ≡ r → Within (length s - n) r
-rest-within s n r e = subst (λ (m : ℕ). Within m r) (length-drop n s) (subst (Within (length (drop n s))) e (scan-within (drop n s)))
+pub rest-within : (s : List ℕ) (n : ℕ) (r : Scan) → scan_of (drop n s) ≡ r → Within (length s - n) r
+rest-within s n r e = subst (λ (m : ℕ). Within m r) (length-drop n s) (subst (Within (length (drop n s))) e (scan_within (drop n s)))

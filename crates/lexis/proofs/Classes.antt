@@ -13,7 +13,7 @@ use lib.Dec.{T, eqb, eqb→eq}
 use lib.ListN.{get_or}
 use Rattle.laws.specs.Pick.{pick}
 use Rattle.laws.proofs.Tags as tags
-use Rattle.lexis.specs.Byte.{classOf}
+use Rattle.lexis.specs.Byte.{class_of}
 use Rattle.lexis.specs.declared.byte.Class.{Class}
 use Rattle.lexis.specs.declared.byte.Class.TheVariants.{Letter, Digit, Underscore, Space, LineEnd, Mark, Other, High}
 use Rattle.lexis.specs.contracts.byte.Class.{the_type}
@@ -38,11 +38,11 @@ pub among : (P : Class → Type 0) (k : Class) (n : ℕ) (ns : List ℕ) → One
 among P k n ns = tags.among tag coded back P k n ns
 
 -- each byte of low .. low + n but x is of class k
-unfoldable pub allIn : ℕ → Class → ℕ → ℕ → Bool
-allIn x k low zero = true
-allIn x k low (suc n) =
-    let later = allIn x k (suc low) n in
-    pick (eqb low x) later (pick (eqb (tag k) (tag (classOf low))) later false)
+unfoldable pub all_in : ℕ → Class → ℕ → ℕ → Bool
+all_in x k low zero = true
+all_in x k low (suc n) =
+    let later = all_in x k (suc low) n in
+    pick (eqb low x) later (pick (eqb (tag k) (tag (class_of low))) later false)
 
 here : (p q r : Bool) → p ≡ false → T (pick p r (pick q r false)) → T q
 here true q r e t = let z : ◌≡◌ {A = ℕ} 0 1 = cc in absurd (omega arith)
@@ -54,14 +54,14 @@ later true q r t = t
 later false true r t = t
 later false false r t = absurd t
 
-pub over : (x : ℕ) (k : Class) (low n b : ℕ) → T (allIn x k low n) → low ≤ b → b < low + n → (b ≡ x → ⊥) → k ≡ classOf b
-unfolding allIn
+pub over : (x : ℕ) (k : Class) (low n b : ℕ) → T (all_in x k low n) → low ≤ b → b < low + n → (b ≡ x → ⊥) → k ≡ class_of b
+unfolding all_in
 over x k low zero b t p q out = absurd (omega arith)
 over x k low (suc n) b t p q out =
     elim (dec_lt low b) [
-      | yes l ↦ over x k (suc low) n b (later (eqb low x) (eqb (tag k) (tag (classOf low))) (allIn x k (suc low) n) t) l (omega arith) out
+      | yes l ↦ over x k (suc low) n b (later (eqb low x) (eqb (tag k) (tag (class_of low))) (all_in x k (suc low) n) t) l (omega arith) out
       | no g ↦
           let e : low ≡ b = omega arith in
-          let same = here (eqb low x) (eqb (tag k) (tag (classOf low))) (allIn x k (suc low) n) (ne_eqb low x (λ z. out (sym e ∙ z))) t in
-          rw (sym e) (tags.same_tag tag coded back k (classOf low) (eqb→eq _ _ same))
+          let same = here (eqb low x) (eqb (tag k) (tag (class_of low))) (all_in x k (suc low) n) (ne_eqb low x (λ z. out (sym e ∙ z))) t in
+          rw (sym e) (tags.same_tag tag coded back k (class_of low) (eqb→eq _ _ same))
     ]

@@ -10,14 +10,14 @@ use lib.Dec.{T, eqb, ltb}
 use lib.ListN.{length, drop, take, get_or, length-map, length-take}
 use lib.Seq.{length-take-le}
 use Rattle.laws.specs.Text.{bytes}
-use Rattle.laws.proofs.Picks.{pick-both}
-use Rattle.laws.proofs.Table.{every, first_passes, others-pass}
+use Rattle.laws.proofs.Picks.{pick_both}
+use Rattle.laws.proofs.Table.{every, first_passes, others_pass}
 use Rattle.words.specs.Token.{Name, Token, name, integer, literal, once, chain, unit, fixed, foreign}
-use Rattle.words.specs.Vocabulary.{lowerOf, lower, Row, subset, others, vocabulary, tokenAt, wordToken, row_of}
-use Rattle.lexis.specs.Byte.{classOf, byClass, isLetter}
-use Rattle.lexis.specs.Blank.{skipFrom}
-use Rattle.lexis.specs.Run.{runLength, allDigits, singles, longestWord, shape_of}
-use Rattle.lexis.specs.Token.{mark_of, runToken, lexemeOf, placed_at, onSkipped, scanOf, tokenOf, Placed, placedToken, onScan, overText, tokensOf}
+use Rattle.words.specs.Vocabulary.{lower_of, lower, Row, subset, others, vocabulary, token_at, word_token, row_of}
+use Rattle.lexis.specs.Byte.{class_of, by_class, is_letter}
+use Rattle.lexis.specs.Blank.{skip_from}
+use Rattle.lexis.specs.Run.{run_length, all_digits, singles, longest_word, shape_of}
+use Rattle.lexis.specs.Token.{mark_of, run_token, lexeme_of, placed_at, on_skipped, scan_of, token_of, Placed, placed_token, on_scan, over_text, tokens_of}
 use Rattle.lexis.specs.declared.byte.Class.{Class}
 use Rattle.lexis.specs.declared.byte.Class.TheVariants.{Letter, Digit, Underscore, Space, LineEnd, Mark, Other, High}
 use Rattle.lexis.specs.declared.blank.Skipped.{Skipped}
@@ -34,7 +34,7 @@ use Rattle.lexis.proofs.Bounds.{run-within}
 
 -- a token's name, if it is one, is short
 abbrev pub ShortToken : Token → Type 0
-ShortToken (name n) = length n ≤ longestWord
+ShortToken (name n) = length n ≤ longest_word
 ShortToken (integer n) = Unit {0}
 ShortToken (literal b) = Unit {0}
 ShortToken (once o) = Unit {0}
@@ -50,17 +50,17 @@ ShortNames (t ∷ ts) = ShortToken t × ShortNames ts
 -- WORDS
 
 -- no row of the vocabulary is a name
-abbrev plainToken : Token → Bool
-plainToken (name n) = false
-plainToken (integer n) = true
-plainToken (literal b) = true
-plainToken (once o) = true
-plainToken (chain c) = true
-plainToken (unit u) = true
-plainToken (fixed w) = true
-plainToken foreign = true
+abbrev plain_token : Token → Bool
+plain_token (name n) = false
+plain_token (integer n) = true
+plain_token (literal b) = true
+plain_token (once o) = true
+plain_token (chain c) = true
+plain_token (unit u) = true
+plain_token (fixed w) = true
+plain_token foreign = true
 
-plain-short : (t : Token) → plainToken t ≡ true → ShortToken t
+plain-short : (t : Token) → plain_token t ≡ true → ShortToken t
 plain-short (name n) e = let z : ◌≡◌ {A = ℕ} 0 1 = cc in absurd (omega arith)
 plain-short (integer n) e = tt
 plain-short (literal b) e = tt
@@ -70,24 +70,24 @@ plain-short (unit u) e = tt
 plain-short (fixed w) e = tt
 plain-short foreign e = tt
 
-row-short : (rows : List Row) → T (every (λ r. plainToken r.token) rows) → (k : ℕ) (w : Name) → length w ≤ longestWord
+row-short : (rows : List Row) → T (every (λ r. plain_token r.token) rows) → (k : ℕ) (w : Name) → length w ≤ longest_word
     → ShortToken (get_or (map (λ r. r.token) rows) k (name w))
 row-short [] t k w h = h
 row-short (r ∷ rows) t zero w h =
-    plain-short r.token (first_passes (plainToken r.token) (every (λ r. plainToken r.token) rows) t)
+    plain-short r.token (first_passes (plain_token r.token) (every (λ r. plain_token r.token) rows) t)
 row-short (r ∷ rows) t (suc k) w h =
-    row-short rows (others-pass (plainToken r.token) (every (λ r. plainToken r.token) rows) t) k w h
+    row-short rows (others_pass (plain_token r.token) (every (λ r. plain_token r.token) rows) t) k w h
 
-all_plain : T (every (λ r. plainToken r.token) vocabulary)
+all_plain : T (every (λ r. plain_token r.token) vocabulary)
 unfolding subset others vocabulary
 all_plain = tt
 
-word-short : (w : List ℕ) → length w ≤ longestWord → ShortToken (wordToken w)
-unfolding wordToken tokenAt
-word-short w h = row-short vocabulary all_plain (row_of w) (lower w) (let e = length-map w lowerOf in omega arith)
+word-short : (w : List ℕ) → length w ≤ longest_word → ShortToken (word_token w)
+unfolding word_token token_at
+word-short w h = row-short vocabulary all_plain (row_of w) (lower w) (let e = length-map w lower_of in omega arith)
 
 -- a token of so many bytes
-token-short : (k : Kind) (run : List ℕ) → (k ≡ Word → length run ≤ longestWord) → ShortToken (tokenOf k run)
+token-short : (k : Kind) (run : List ℕ) → (k ≡ Word → length run ≤ longest_word) → ShortToken (token_of k run)
 token-short Word run h = word-short run (h refl)
 token-short Integer run h = tt
 token-short Open run h = tt
@@ -102,29 +102,29 @@ token-short Becomes run h = tt
 
 -- a word that is found is short
 abbrev ShortLexeme : Lexeme → Type 0
-ShortLexeme (lexeme k l) = k ≡ Word → l ≤ longestWord
+ShortLexeme (lexeme k l) = k ≡ Word → l ≤ longest_word
 ShortLexeme Nothing = Unit {0}
 ShortLexeme Refused = Unit {0}
 
 abbrev ShortScan : Scan → Type 0
-ShortScan (scanned k n l) = k ≡ Word → l ≤ longestWord
+ShortScan (scanned k n l) = k ≡ Word → l ≤ longest_word
 ShortScan End = Unit {0}
 ShortScan (scanRefused p) = Unit {0}
 
 abbrev ShortShape : ℕ → Shape → Type 0
-ShortShape l word = l ≤ longestWord
+ShortShape l word = l ≤ longest_word
 ShortShape l digits = Unit {0}
 ShortShape l broken = Unit {0}
 
-shape-short : (run : List ℕ) → ShortShape (length run) (shape_of run)
-shape-short run =
-    pick-both (ShortShape (length run)) (allDigits run) digits _ (λ _. tt)
-    (λ _. pick-both (ShortShape (length run)) (ltb longestWord (length run)) broken _ (λ _. tt)
-    (λ e. pick-both (ShortShape (length run)) (singles false run) _ broken
-    (λ _. pick-both (ShortShape (length run)) (isLetter (classOf (get_or run 0 0))) word broken (λ _. ltb-false longestWord (length run) e) (λ _. tt))
+shape_short : (run : List ℕ) → ShortShape (length run) (shape_of run)
+shape_short run =
+    pick_both (ShortShape (length run)) (all_digits run) digits _ (λ _. tt)
+    (λ _. pick_both (ShortShape (length run)) (ltb longest_word (length run)) broken _ (λ _. tt)
+    (λ e. pick_both (ShortShape (length run)) (singles false run) _ broken
+    (λ _. pick_both (ShortShape (length run)) (is_letter (class_of (get_or run 0 0))) word broken (λ _. ltb-false longest_word (length run) e) (λ _. tt))
     (λ _. tt)))
 
-run_short : (l : ℕ) (w : Shape) → ShortShape l w → ShortLexeme (runToken w l)
+run_short : (l : ℕ) (w : Shape) → ShortShape l w → ShortLexeme (run_token w l)
 run_short l word h = λ _. h
 run_short l digits h = λ e. let z : ◌≡◌ {A = ℕ} 0 1 = cc in absurd (omega arith)
 run_short l broken h = tt
@@ -144,74 +144,74 @@ marks Becomes = true
 not-word : (k : Kind) → marks k ≡ true → k ≡ Word → ⊥
 not-word k e h = let z : ◌≡◌ {A = ℕ} 0 1 = cc (ap marks h) in omega arith
 
-mark-short : (first second : ℕ) → ShortLexeme (mark_of first second)
+mark_short : (first second : ℕ) → ShortLexeme (mark_of first second)
 unfolding mark_of
-mark-short first second =
+mark_short first second =
     let single : (k : Kind) → (k ≡ Word → ⊥) → (l : ℕ) → ShortLexeme (lexeme k l) = λ k h l e. absurd (h e) in
     let S = ShortLexeme in
-    pick-both S (eqb first 40) (lexeme Open 1) _ (λ _. single Open (not-word Open refl) 1) (λ _.
-    pick-both S (eqb first 41) (lexeme Close 1) _ (λ _. single Close (not-word Close refl) 1) (λ _.
-    pick-both S (eqb first 44) (lexeme Comma 1) _ (λ _. single Comma (not-word Comma refl) 1) (λ _.
-    pick-both S (eqb first 59) (lexeme Semicolon 1) _ (λ _. single Semicolon (not-word Semicolon refl) 1) (λ _.
-    pick-both S (eqb first 58) _ _
-    (λ _. pick-both S (eqb second 61) (lexeme Becomes 2) (lexeme Colon 1) (λ _. single Becomes (not-word Becomes refl) 2) (λ _. single Colon (not-word Colon refl) 1)) (λ _.
-    pick-both S (eqb first 60) _ _
-    (λ _. pick-both S (eqb second 61) (lexeme Arrow 2) Refused (λ _. single Arrow (not-word Arrow refl) 2) (λ _. tt)) (λ _. tt))))))
+    pick_both S (eqb first 40) (lexeme Open 1) _ (λ _. single Open (not-word Open refl) 1) (λ _.
+    pick_both S (eqb first 41) (lexeme Close 1) _ (λ _. single Close (not-word Close refl) 1) (λ _.
+    pick_both S (eqb first 44) (lexeme Comma 1) _ (λ _. single Comma (not-word Comma refl) 1) (λ _.
+    pick_both S (eqb first 59) (lexeme Semicolon 1) _ (λ _. single Semicolon (not-word Semicolon refl) 1) (λ _.
+    pick_both S (eqb first 58) _ _
+    (λ _. pick_both S (eqb second 61) (lexeme Becomes 2) (lexeme Colon 1) (λ _. single Becomes (not-word Becomes refl) 2) (λ _. single Colon (not-word Colon refl) 1)) (λ _.
+    pick_both S (eqb first 60) _ _
+    (λ _. pick_both S (eqb second 61) (lexeme Arrow 2) Refused (λ _. single Arrow (not-word Arrow refl) 2) (λ _. tt)) (λ _. tt))))))
 
-by-class : (k : Class) (run mark : Lexeme) → ShortLexeme run → ShortLexeme mark → ShortLexeme (byClass k run run run Refused Refused mark Refused Refused)
-by-class Letter run mark p q = p
-by-class Digit run mark p q = p
-by-class Underscore run mark p q = p
-by-class Space run mark p q = tt
-by-class LineEnd run mark p q = tt
-by-class Mark run mark p q = q
-by-class Other run mark p q = tt
-by-class High run mark p q = tt
+by_class_lem : (k : Class) (run mark : Lexeme) → ShortLexeme run → ShortLexeme mark → ShortLexeme (by_class k run run run Refused Refused mark Refused Refused)
+by_class_lem Letter run mark p q = p
+by_class_lem Digit run mark p q = p
+by_class_lem Underscore run mark p q = p
+by_class_lem Space run mark p q = tt
+by_class_lem LineEnd run mark p q = tt
+by_class_lem Mark run mark p q = q
+by_class_lem Other run mark p q = tt
+by_class_lem High run mark p q = tt
 
 -- the run at the start of a text is as long as what is taken of it
-lexeme-short : (s : List ℕ) → ShortLexeme (lexemeOf s)
-unfolding lexemeOf
-lexeme-short s =
-    let l : length (take (runLength 0 s) s) ≡ runLength 0 s = length-take-le (runLength 0 s) s (omega (arith, (run-within 0 s).1)) in
-    pick-both ShortLexeme (eqb (length s) 0) Nothing _ (λ _. tt)
-    (λ _. by-class (classOf (get_or s 0 0)) _ _
-    (run_short (runLength 0 s) (shape_of (take (runLength 0 s) s))
-    (subst (λ (n : ℕ). ShortShape n (shape_of (take (runLength 0 s) s))) l (shape-short (take (runLength 0 s) s))))
-    (mark-short (get_or s 0 0) (get_or s 1 0)))
+lexeme_short : (s : List ℕ) → ShortLexeme (lexeme_of s)
+unfolding lexeme_of
+lexeme_short s =
+    let l : length (take (run_length 0 s) s) ≡ run_length 0 s = length-take-le (run_length 0 s) s (omega (arith, (run-within 0 s).1)) in
+    pick_both ShortLexeme (eqb (length s) 0) Nothing _ (λ _. tt)
+    (λ _. by_class_lem (class_of (get_or s 0 0)) _ _
+    (run_short (run_length 0 s) (shape_of (take (run_length 0 s) s))
+    (subst (λ (n : ℕ). ShortShape n (shape_of (take (run_length 0 s) s))) l (shape_short (take (run_length 0 s) s))))
+    (mark_short (get_or s 0 0) (get_or s 1 0)))
 
 placed-short : (n : ℕ) (x : Lexeme) → ShortLexeme x → ShortScan (placed_at n x)
 placed-short n (lexeme k l) h = h
 placed-short n Nothing h = tt
 placed-short n Refused h = tt
 
-skipped-short : (r : Skipped) (s : List ℕ) → ShortScan (onSkipped r s)
-skipped-short (To n) s = placed-short n (lexemeOf (drop n s)) (lexeme-short (drop n s))
+skipped-short : (r : Skipped) (s : List ℕ) → ShortScan (on_skipped r s)
+skipped-short (To n) s = placed-short n (lexeme_of (drop n s)) (lexeme_short (drop n s))
 skipped-short (skipRefused n) s = tt
 
-scan-short : (s : List ℕ) → ShortScan (scanOf s)
-unfolding scanOf
-scan-short s = skipped-short (skipFrom false 0 s) s
+scan_short : (s : List ℕ) → ShortScan (scan_of s)
+unfolding scan_of
+scan_short s = skipped-short (skip_from false 0 s) s
 
 -- THE WHOLE TEXT
 
-abbrev tokensIn : List Placed → List Token
-tokensIn ps = map (λ p. p.token) ps
+abbrev tokens_in : List Placed → List Token
+tokens_in ps = map (λ p. p.token) ps
 
-tokens-short : (f i : ℕ) (s : List ℕ) → ShortNames (tokensIn (overText (λ token rest. token ∷ rest) [] (λ place. []) f i s))
-unfolding ShortNames overText
+tokens-short : (f i : ℕ) (s : List ℕ) → ShortNames (tokens_in (over_text (λ token rest. token ∷ rest) [] (λ place. []) f i s))
+unfolding ShortNames over_text
 tokens-short zero i s = tt
-tokens-short (suc f) i s = go (scanOf s) (scan-short s) (λ n. tokens-short f (i + n) (drop n s))
+tokens-short (suc f) i s = go (scan_of s) (scan_short s) (λ n. tokens-short f (i + n) (drop n s))
   where
     go : (r : Scan) → ShortScan r
-        → ((n : ℕ) → ShortNames (tokensIn (overText (λ token rest. token ∷ rest) [] (λ place. []) f (i + n) (drop n s))))
-        → ShortNames (tokensIn (onScan r
-        (λ kind start length. placedToken i kind start length s ∷ overText (λ token rest. token ∷ rest) [] (λ place. []) f (i + (start + length)) (drop (start + length) s))
+        → ((n : ℕ) → ShortNames (tokens_in (over_text (λ token rest. token ∷ rest) [] (λ place. []) f (i + n) (drop n s))))
+        → ShortNames (tokens_in (on_scan r
+        (λ kind start length. placed_token i kind start length s ∷ over_text (λ token rest. token ∷ rest) [] (λ place. []) f (i + (start + length)) (drop (start + length) s))
         [] (λ place. [])))
     go (scanned k n l) h more =
         (token-short k (take l (drop n s)) (λ e. let p = h e in omega (arith, length-take l (drop n s))), more (n + l))
     go End h more = tt
     go (scanRefused p) h more = tt
 
-pub short-names : (text : List ℕ) → ShortNames (tokensIn (tokensOf text))
-unfolding tokensOf
+pub short-names : (text : List ℕ) → ShortNames (tokens_in (tokens_of text))
+unfolding tokens_of
 short-names text = tokens-short (length text + 1) 0 text

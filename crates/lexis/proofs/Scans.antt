@@ -8,93 +8,93 @@ use native.Mathlib.Nat.{add_assoc}
 use native.Mathlib.Numerals.{add-one}
 use lib.ListN.{length, drop, length-drop, drop_of_length-le}
 use lib.Seq.{drop-drop}
-use Rattle.lexis.specs.Token.{Placed, placedToken, scanOf, overText}
-use Rattle.lexis.specs.Blank.{skipFrom}
-use Rattle.lexis.specs.Token.{lexemeOf}
+use Rattle.lexis.specs.Token.{Placed, placed_token, scan_of, over_text}
+use Rattle.lexis.specs.Blank.{skip_from}
+use Rattle.lexis.specs.Token.{lexeme_of}
 use Rattle.lexis.specs.declared.token.Kind.{Kind}
 use Rattle.lexis.specs.declared.token.Scan.{Scan}
 use Rattle.lexis.specs.declared.token.Scan.TheVariants.{Token as scanned, End, Refused as scanRefused}
 use Rattle.lexis.specs.declared.token.Refusal.{Refusal}
 use Rattle.lexis.specs.declared.token.Refusal.TheVariants.{At, Nowhere}
-use Rattle.lexis.proofs.Bounds.{Within, scan-within}
+use Rattle.lexis.proofs.Bounds.{Within, scan_within}
 
 module _ {A : Type 0} (found : Placed → A → A) (ended : A) (refused : ℕ → A) where
   -- what is made of a text that starts at place i
   abbrev pub made : ℕ → List ℕ → A
-  made i s = overText found ended refused (length s + 1) i s
+  made i s = over_text found ended refused (length s + 1) i s
 
   -- more scans than bytes: how many more does not count
-  enough : (f g i : ℕ) (s : List ℕ) → length s < f → length s < g → overText found ended refused f i s ≡ overText found ended refused g i s
-  unfolding overText
+  enough : (f g i : ℕ) (s : List ℕ) → length s < f → length s < g → over_text found ended refused f i s ≡ over_text found ended refused g i s
+  unfolding over_text
   enough zero g i s p q = absurd (omega arith)
   enough (suc f) zero i s p q = absurd (omega arith)
-  enough (suc f) (suc g) i s p q = by-scan (λ j t. enough f g j t) (scanOf s) refl
+  enough (suc f) (suc g) i s p q = by_scan (λ j t. enough f g j t) (scan_of s) refl
     where
-      by-scan : ((j : ℕ) (t : List ℕ) → length t < f → length t < g → overText found ended refused f j t ≡ overText found ended refused g j t)
-          → (r : Scan) → scanOf s ≡ r → overText found ended refused (suc f) i s ≡ overText found ended refused (suc g) i s
-      by-scan again (scanned k n l) e =
-          let w : (0 < l) × (n + l ≤ length s) = subst (Within (length s)) e (scan-within s) in
-          rw e (ap (found (placedToken i k n l s)) (again (i + (n + l)) (drop (n + l) s) (rw length-drop (omega arith)) (rw length-drop (omega arith))))
-      by-scan again End e = rw e
-      by-scan again (scanRefused p) e = rw e
+      by_scan : ((j : ℕ) (t : List ℕ) → length t < f → length t < g → over_text found ended refused f j t ≡ over_text found ended refused g j t)
+          → (r : Scan) → scan_of s ≡ r → over_text found ended refused (suc f) i s ≡ over_text found ended refused (suc g) i s
+      by_scan again (scanned k n l) e =
+          let w : (0 < l) × (n + l ≤ length s) = subst (Within (length s)) e (scan_within s) in
+          rw e (ap (found (placed_token i k n l s)) (again (i + (n + l)) (drop (n + l) s) (rw length-drop (omega arith)) (rw length-drop (omega arith))))
+      by_scan again End e = rw e
+      by_scan again (scanRefused p) e = rw e
 
   module _ (i : ℕ) (s : List ℕ) where
-    pub made-token : (k : Kind) (n l : ℕ) → scanOf s ≡ scanned k n l
-        → made i s ≡ found (placedToken i k n l s) (made (i + (n + l)) (drop (n + l) s))
-    unfolding overText
+    pub made-token : (k : Kind) (n l : ℕ) → scan_of s ≡ scanned k n l
+        → made i s ≡ found (placed_token i k n l s) (made (i + (n + l)) (drop (n + l) s))
+    unfolding over_text
     made-token k n l e =
-        let w : (0 < l) × (n + l ≤ length s) = subst (Within (length s)) e (scan-within s) in
+        let w : (0 < l) × (n + l ≤ length s) = subst (Within (length s)) e (scan_within s) in
         rw (add-one, e)
-        (ap (found (placedToken i k n l s)) (enough (length s) (length (drop (n + l) s) + 1) (i + (n + l)) (drop (n + l) s) (rw length-drop (omega arith)) (omega arith)))
+        (ap (found (placed_token i k n l s)) (enough (length s) (length (drop (n + l) s) + 1) (i + (n + l)) (drop (n + l) s) (rw length-drop (omega arith)) (omega arith)))
 
-    pub made-end : scanOf s ≡ End → made i s ≡ ended
-    unfolding overText
-    made-end e = rw (add-one, e)
+    pub made_end : scan_of s ≡ End → made i s ≡ ended
+    unfolding over_text
+    made_end e = rw (add-one, e)
 
-    pub made-refused : (p : ℕ) → scanOf s ≡ scanRefused p → made i s ≡ refused (i + p)
-    unfolding overText
+    pub made-refused : (p : ℕ) → scan_of s ≡ scanRefused p → made i s ≡ refused (i + p)
+    unfolding over_text
     made-refused p e = rw (add-one, e)
 
   -- what is made of the text s from place n on
   module _ (s : List ℕ) (n : ℕ) where
-    pub rest-token : (k : Kind) (i l : ℕ) → scanOf (drop n s) ≡ scanned k i l
-        → made n (drop n s) ≡ found (placedToken n k i l (drop n s)) (made (n + i + l) (drop (n + i + l) s))
+    pub rest-token : (k : Kind) (i l : ℕ) → scan_of (drop n s) ≡ scanned k i l
+        → made n (drop n s) ≡ found (placed_token n k i l (drop n s)) (made (n + i + l) (drop (n + i + l) s))
     rest-token k i l e = rw (add_assoc, ← drop-drop) (made-token n (drop n s) k i l e)
 
     pub rest-none : length s ≤ n → made n (drop n s) ≡ ended
-    unfolding overText scanOf skipFrom lexemeOf
+    unfolding over_text scan_of skip_from lexeme_of
     rest-none h = rw (drop_of_length-le s h)
 
 -- THE FIRST REFUSED PLACE, from place n of the text s on
 
-abbrev pub refusedAt : ℕ → List ℕ → Refusal
-refusedAt = made (λ token rest. rest) Nowhere At
+abbrev pub refused_at : ℕ → List ℕ → Refusal
+refused_at = made (λ token rest. rest) Nowhere At
 
 module _ (s : List ℕ) (n : ℕ) where
-  pub refused-token : (k : Kind) (i l : ℕ) → scanOf (drop n s) ≡ scanned k i l → refusedAt n (drop n s) ≡ refusedAt (n + i + l) (drop (n + i + l) s)
+  pub refused-token : (k : Kind) (i l : ℕ) → scan_of (drop n s) ≡ scanned k i l → refused_at n (drop n s) ≡ refused_at (n + i + l) (drop (n + i + l) s)
   refused-token = rest-token (λ token rest. rest) Nowhere At s n
 
-  pub refused_end : scanOf (drop n s) ≡ End → refusedAt n (drop n s) ≡ Nowhere
-  refused_end = made-end (λ token rest. rest) Nowhere At n (drop n s)
+  pub refused_end : scan_of (drop n s) ≡ End → refused_at n (drop n s) ≡ Nowhere
+  refused_end = made_end (λ token rest. rest) Nowhere At n (drop n s)
 
-  pub refused-place : (p : ℕ) → scanOf (drop n s) ≡ scanRefused p → refusedAt n (drop n s) ≡ At (n + p)
+  pub refused-place : (p : ℕ) → scan_of (drop n s) ≡ scanRefused p → refused_at n (drop n s) ≡ At (n + p)
   refused-place = made-refused (λ token rest. rest) Nowhere At n (drop n s)
 
-  pub refused_none : length s ≤ n → refusedAt n (drop n s) ≡ Nowhere
+  pub refused_none : length s ≤ n → refused_at n (drop n s) ≡ Nowhere
   refused_none = rest-none (λ token rest. rest) Nowhere At s n
 
 -- THE TOKENS, from place n of the text s on
 
-abbrev pub tokensAt : ℕ → List ℕ → List Placed
-tokensAt = made (λ token rest. token ∷ rest) [] (λ place. [])
+abbrev pub tokens_at : ℕ → List ℕ → List Placed
+tokens_at = made (λ token rest. token ∷ rest) [] (λ place. [])
 
 module _ (s : List ℕ) (n : ℕ) where
-  pub tokens-token : (k : Kind) (i l : ℕ) → scanOf (drop n s) ≡ scanned k i l
-      → tokensAt n (drop n s) ≡ placedToken n k i l (drop n s) ∷ tokensAt (n + i + l) (drop (n + i + l) s)
+  pub tokens-token : (k : Kind) (i l : ℕ) → scan_of (drop n s) ≡ scanned k i l
+      → tokens_at n (drop n s) ≡ placed_token n k i l (drop n s) ∷ tokens_at (n + i + l) (drop (n + i + l) s)
   tokens-token = rest-token (λ token rest. token ∷ rest) [] (λ place. []) s n
 
-  pub tokens-end : scanOf (drop n s) ≡ End → tokensAt n (drop n s) ≡ []
-  tokens-end = made-end (λ token rest. token ∷ rest) [] (λ place. []) n (drop n s)
+  pub tokens_end : scan_of (drop n s) ≡ End → tokens_at n (drop n s) ≡ []
+  tokens_end = made_end (λ token rest. token ∷ rest) [] (λ place. []) n (drop n s)
 
-  pub tokens_none : length s ≤ n → tokensAt n (drop n s) ≡ []
+  pub tokens_none : length s ≤ n → tokens_at n (drop n s) ≡ []
   tokens_none = rest-none (λ token rest. token ∷ rest) [] (λ place. []) s n

@@ -3,7 +3,7 @@
 use Rattle.std.specs.Prelude.{ℕ, ◌+◌, ◌≡◌, refl, Bool, true, false, List, [], ◌∷◌, ◌++◌, eqb, get_or}
 use Rattle.laws.specs.Pick.{pick}
 use Rattle.laws.specs.Text.{bytes}
-use Rattle.lexis.specs.Byte.{classOf, byClass}
+use Rattle.lexis.specs.Byte.{class_of, by_class}
 use Rattle.lexis.specs.declared.byte.Class.{Class}
 use Rattle.lexis.specs.declared.blank.Step.{Step}
 use Rattle.lexis.specs.declared.blank.Step.TheVariants.{Pass, Stop, Refuse}
@@ -11,37 +11,37 @@ use Rattle.lexis.specs.declared.blank.Skipped.{Skipped}
 use Rattle.lexis.specs.declared.blank.Skipped.TheVariants.{To, Refused}
 
 -- two dashes stand at the start
-abbrev pub dashesOf : List ℕ → Bool
-dashesOf text = pick (eqb (get_or text 0 0) 45) (eqb (get_or text 1 0) 45) false
+abbrev pub dashes_of : List ℕ → Bool
+dashes_of text = pick (eqb (get_or text 0 0) 45) (eqb (get_or text 1 0) 45) false
 
 -- what a byte does, in a comment and outside of one: it is passed, and what follows is in a comment or not; or it stops the skip, or is refused
 abbrev pub step_of : (inside : Bool) → Class → (dashes : Bool) → Step
 step_of true class dashes =
-    byClass class (Pass true) (Pass true) (Pass true) (Pass true) (Pass false) (Pass true) (Pass true) Refuse
+    by_class class (Pass true) (Pass true) (Pass true) (Pass true) (Pass false) (Pass true) (Pass true) Refuse
 step_of false class dashes =
-    byClass class Stop Stop Stop (Pass false) (Pass false) (pick dashes (Pass true) Stop) Stop Stop
+    by_class class Stop Stop Stop (Pass false) (Pass false) (pick dashes (Pass true) Stop) Stop Stop
 
-abbrev pub onStep : Step → (comment blank stop refuse : Skipped) → Skipped
-onStep (Pass inside) comment blank stop refuse = pick inside comment blank
-onStep Stop comment blank stop refuse = stop
-onStep Refuse comment blank stop refuse = refuse
+abbrev pub on_step : Step → (comment blank stop refuse : Skipped) → Skipped
+on_step (Pass inside) comment blank stop refuse = pick inside comment blank
+on_step Stop comment blank stop refuse = stop
+on_step Refuse comment blank stop refuse = refuse
 
 -- where blanks and comments end, from place i on; inside says that a comment has begun
-unfoldable pub skipFrom : (inside : Bool) → ℕ → List ℕ → Skipped
-skipFrom inside i [] = To i
-skipFrom inside i (byte ∷ text) =
-    let comment = skipFrom true (i + 1) text in
-    let blank = skipFrom false (i + 1) text in
-    onStep (step_of inside (classOf byte) (dashesOf (byte ∷ text))) comment blank (To i) (Refused i)
+unfoldable pub skip_from : (inside : Bool) → ℕ → List ℕ → Skipped
+skip_from inside i [] = To i
+skip_from inside i (byte ∷ text) =
+    let comment = skip_from true (i + 1) text in
+    let blank = skip_from false (i + 1) text in
+    on_step (step_of inside (class_of byte) (dashes_of (byte ∷ text))) comment blank (To i) (Refused i)
 
-blanks : skipFrom false 0 (bytes " \t-- to the end\n -a") ≡ To 17
-unfolding classOf skipFrom
+blanks : skip_from false 0 (bytes " \t-- to the end\n -a") ≡ To 17
+unfolding class_of skip_from
 blanks = refl
 
-to_the_end : skipFrom false 0 (bytes "--") ≡ To 2
-unfolding classOf skipFrom
+to_the_end : skip_from false 0 (bytes "--") ≡ To 2
+unfolding class_of skip_from
 to_the_end = refl
 
-high-in-comment : skipFrom false 0 (bytes "-- " ++ 195 ∷ 169 ∷ []) ≡ Refused 3
-unfolding classOf skipFrom
-high-in-comment = refl
+high_in_comment : skip_from false 0 (bytes "-- " ++ 195 ∷ 169 ∷ []) ≡ Refused 3
+unfolding class_of skip_from
+high_in_comment = refl

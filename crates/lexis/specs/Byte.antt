@@ -5,8 +5,8 @@ use Rattle.laws.specs.Pick.{pick, within}
 use Rattle.lexis.specs.declared.byte.Class.{Class}
 use Rattle.lexis.specs.declared.byte.Class.TheVariants.{Letter, Digit, Underscore, Space, LineEnd, Mark, Other, High}
 
-unfoldable pub classOf : ℕ → Class
-classOf byte =
+unfoldable pub class_of : ℕ → Class
+class_of byte =
     pick (within 65 90 byte) Letter  -- A to Z
     (pick (within 97 122 byte) Letter  -- a to z
     (pick (within 48 57 byte) Digit  -- 0 to 9
@@ -20,24 +20,24 @@ classOf byte =
     (pick (leb 128 byte) High Other))))))))))
 
 -- one answer for each class
-abbrev pub byClass : {A : Type 0} → Class → (letter digit underscore space lineEnd mark other high : A) → A
-byClass Letter l d u s e m o h = l
-byClass Digit l d u s e m o h = d
-byClass Underscore l d u s e m o h = u
-byClass Space l d u s e m o h = s
-byClass LineEnd l d u s e m o h = e
-byClass Mark l d u s e m o h = m
-byClass Other l d u s e m o h = o
-byClass High l d u s e m o h = h
+abbrev pub by_class : {A : Type 0} → Class → (letter digit underscore space lineEnd mark other high : A) → A
+by_class Letter l d u s e m o h = l
+by_class Digit l d u s e m o h = d
+by_class Underscore l d u s e m o h = u
+by_class Space l d u s e m o h = s
+by_class LineEnd l d u s e m o h = e
+by_class Mark l d u s e m o h = m
+by_class Other l d u s e m o h = o
+by_class High l d u s e m o h = h
 
-abbrev pub inRun : Class → Bool
-inRun class = byClass class true true true false false false false false
+abbrev pub in_run : Class → Bool
+in_run class = by_class class true true true false false false false false
 
-abbrev pub isLetter : Class → Bool
-isLetter class = byClass class true false false false false false false false
+abbrev pub is_letter : Class → Bool
+is_letter class = by_class class true false false false false false false false
 
-abbrev pub isDigit : Class → Bool
-isDigit class = byClass class false true false false false false false false
+abbrev pub is_digit : Class → Bool
+is_digit class = by_class class false true false false false false false false
 
-abbrev pub isUnderscore : Class → Bool
-isUnderscore class = byClass class false false true false false false false false
+abbrev pub is_underscore : Class → Bool
+is_underscore class = by_class class false false true false false false false false

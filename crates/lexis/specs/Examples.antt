@@ -3,20 +3,20 @@
 use Rattle.std.specs.Prelude.{ℕ, ◌≡◌, refl, List, [], ◌∷◌, ◌++◌}
 use Rattle.laws.specs.Pick.{same_list}
 use Rattle.laws.specs.Text.{bytes, lines}
-use Rattle.words.specs.Vocabulary.{subset, others, vocabulary, rowFrom, row_of, tokenAt, wordToken}
+use Rattle.words.specs.Vocabulary.{subset, others, vocabulary, row_from, row_of, token_at, word_token}
 use Rattle.words.specs.Token.{Token, name, integer, unit, fixed, foreign, ENTITY, IS, END, ARCHITECTURE, OF, SIGNAL, BEGIN, BOOLEAN, PROCESS, TRANSPORT, AFTER, NOT, OPEN, CLOSE, COMMA, COLON, SEMICOLON, ARROW, BECOMES}
 use Rattle.words.specs.declared.unit.TimeUnit.TheVariants.{Ns}
-use Rattle.lexis.specs.Byte.{classOf}
-use Rattle.lexis.specs.Blank.{skipFrom}
-use Rattle.lexis.specs.Run.{runLength, allDigits, singles}
-use Rattle.lexis.specs.Token.{Placed, mark_of, lexemeOf, scanOf, overText, firstRefused, tokensOf}
+use Rattle.lexis.specs.Byte.{class_of}
+use Rattle.lexis.specs.Blank.{skip_from}
+use Rattle.lexis.specs.Run.{run_length, all_digits, singles}
+use Rattle.lexis.specs.Token.{Placed, mark_of, lexeme_of, scan_of, over_text, first_refused, tokens_of}
 use Rattle.lexis.specs.declared.token.Refusal.TheVariants.{At, Nowhere}
 
 abbrev at : ℕ → Token → Placed
 at start token = record { token = token; start = start }
 
-abbrev pub caseA : List ℕ
-caseA = lines (
+abbrev pub case_a : List ℕ
+case_a = lines (
     "entity pair is end;"
     ∷ "architecture a of pair is"
     ∷ "  signal q, d : boolean;"
@@ -26,7 +26,7 @@ caseA = lines (
     ∷ "end;"
     ∷ [])
 
-tokens-of-case-a : tokensOf caseA ≡
+tokens_of_case_a : tokens_of case_a ≡
     at 0 (fixed ENTITY) ∷ at 7 (name (bytes "pair")) ∷ at 12 (fixed IS) ∷ at 15 (fixed END) ∷ at 18 (fixed SEMICOLON)
     ∷ at 20 (fixed ARCHITECTURE) ∷ at 33 (name (bytes "a")) ∷ at 35 (fixed OF) ∷ at 38 (name (bytes "pair")) ∷ at 43 (fixed IS)
     ∷ at 48 (fixed SIGNAL) ∷ at 55 (name (bytes "q")) ∷ at 56 (fixed COMMA) ∷ at 58 (name (bytes "d")) ∷ at 60 (fixed COLON)
@@ -39,93 +39,93 @@ tokens-of-case-a : tokensOf caseA ≡
     ∷ at 163 (name (bytes "d")) ∷ at 165 (fixed ARROW) ∷ at 168 (fixed TRANSPORT) ∷ at 178 (fixed NOT) ∷ at 182 (name (bytes "q"))
     ∷ at 183 (fixed SEMICOLON) ∷ at 185 (fixed END) ∷ at 189 (fixed PROCESS) ∷ at 196 (fixed SEMICOLON)
     ∷ at 198 (fixed END) ∷ at 201 (fixed SEMICOLON) ∷ []
-unfolding classOf skipFrom runLength allDigits singles mark_of lexemeOf scanOf overText tokensOf subset others vocabulary rowFrom row_of tokenAt wordToken same_list
-tokens-of-case-a = refl
+unfolding class_of skip_from run_length all_digits singles mark_of lexeme_of scan_of over_text tokens_of subset others vocabulary row_from row_of token_at word_token same_list
+tokens_of_case_a = refl
 
 -- MARKS
 
-greedy : tokensOf (bytes "p:=<=:,") ≡ at 0 (name (bytes "p")) ∷ at 1 (fixed BECOMES) ∷ at 3 (fixed ARROW) ∷ at 5 (fixed COLON) ∷ at 6 (fixed COMMA) ∷ []
-unfolding classOf skipFrom runLength allDigits singles mark_of lexemeOf scanOf overText tokensOf subset others vocabulary rowFrom row_of tokenAt wordToken same_list
+greedy : tokens_of (bytes "p:=<=:,") ≡ at 0 (name (bytes "p")) ∷ at 1 (fixed BECOMES) ∷ at 3 (fixed ARROW) ∷ at 5 (fixed COLON) ∷ at 6 (fixed COMMA) ∷ []
+unfolding class_of skip_from run_length all_digits singles mark_of lexeme_of scan_of over_text tokens_of subset others vocabulary row_from row_of token_at word_token same_list
 greedy = refl
 
-colon-apart : tokensOf (bytes ": (") ≡ at 0 (fixed COLON) ∷ at 2 (fixed OPEN) ∷ []
-unfolding classOf skipFrom runLength allDigits singles mark_of lexemeOf scanOf overText tokensOf subset others vocabulary rowFrom row_of tokenAt wordToken same_list
-colon-apart = refl
+colon_apart : tokens_of (bytes ": (") ≡ at 0 (fixed COLON) ∷ at 2 (fixed OPEN) ∷ []
+unfolding class_of skip_from run_length all_digits singles mark_of lexeme_of scan_of over_text tokens_of subset others vocabulary row_from row_of token_at word_token same_list
+colon_apart = refl
 
-equals-apart : firstRefused (bytes ": =") ≡ At 2
-unfolding classOf skipFrom runLength allDigits singles mark_of lexemeOf scanOf overText firstRefused
-equals-apart = refl
+equals_apart : first_refused (bytes ": =") ≡ At 2
+unfolding class_of skip_from run_length all_digits singles mark_of lexeme_of scan_of over_text first_refused
+equals_apart = refl
 
-less-alone : firstRefused (bytes "a < b") ≡ At 2
-unfolding classOf skipFrom runLength allDigits singles mark_of lexemeOf scanOf overText firstRefused
+less-alone : first_refused (bytes "a < b") ≡ At 2
+unfolding class_of skip_from run_length all_digits singles mark_of lexeme_of scan_of over_text first_refused
 less-alone = refl
 
-dash-alone : firstRefused (bytes "a - b") ≡ At 2
-unfolding classOf skipFrom runLength allDigits singles mark_of lexemeOf scanOf overText firstRefused
-dash-alone = refl
+dash_alone : first_refused (bytes "a - b") ≡ At 2
+unfolding class_of skip_from run_length all_digits singles mark_of lexeme_of scan_of over_text first_refused
+dash_alone = refl
 
 -- RUNS
 
-case-aside : tokensOf (bytes "PrOcEsS Reject nS_1") ≡ at 0 (fixed PROCESS) ∷ at 8 foreign ∷ at 15 (name (bytes "ns_1")) ∷ []
-unfolding classOf skipFrom runLength allDigits singles mark_of lexemeOf scanOf overText tokensOf subset others vocabulary rowFrom row_of tokenAt wordToken same_list
-case-aside = refl
+case_aside : tokens_of (bytes "PrOcEsS Reject nS_1") ≡ at 0 (fixed PROCESS) ∷ at 8 foreign ∷ at 15 (name (bytes "ns_1")) ∷ []
+unfolding class_of skip_from run_length all_digits singles mark_of lexeme_of scan_of over_text tokens_of subset others vocabulary row_from row_of token_at word_token same_list
+case_aside = refl
 
-zeros : tokensOf (bytes "007 0") ≡ at 0 (integer 7) ∷ at 4 (integer 0) ∷ []
-unfolding classOf skipFrom runLength allDigits singles mark_of lexemeOf scanOf overText tokensOf subset others vocabulary rowFrom row_of tokenAt wordToken same_list
+zeros : tokens_of (bytes "007 0") ≡ at 0 (integer 7) ∷ at 4 (integer 0) ∷ []
+unfolding class_of skip_from run_length all_digits singles mark_of lexeme_of scan_of over_text tokens_of subset others vocabulary row_from row_of token_at word_token same_list
 zeros = refl
 
-last-underscore : firstRefused (bytes "a a_") ≡ At 2
-unfolding classOf skipFrom runLength allDigits singles mark_of lexemeOf scanOf overText firstRefused
-last-underscore = refl
+last_underscore : first_refused (bytes "a a_") ≡ At 2
+unfolding class_of skip_from run_length all_digits singles mark_of lexeme_of scan_of over_text first_refused
+last_underscore = refl
 
-double-underscore : firstRefused (bytes "a__b") ≡ At 0
-unfolding classOf skipFrom runLength allDigits singles mark_of lexemeOf scanOf overText firstRefused
-double-underscore = refl
+double_underscore : first_refused (bytes "a__b") ≡ At 0
+unfolding class_of skip_from run_length all_digits singles mark_of lexeme_of scan_of over_text first_refused
+double_underscore = refl
 
-first-underscore : firstRefused (bytes " _a") ≡ At 1
-unfolding classOf skipFrom runLength allDigits singles mark_of lexemeOf scanOf overText firstRefused
-first-underscore = refl
+first_underscore : first_refused (bytes " _a") ≡ At 1
+unfolding class_of skip_from run_length all_digits singles mark_of lexeme_of scan_of over_text first_refused
+first_underscore = refl
 
-integer-and-unit : firstRefused (bytes "3ns") ≡ At 0
-unfolding classOf skipFrom runLength allDigits singles mark_of lexemeOf scanOf overText firstRefused
+integer-and-unit : first_refused (bytes "3ns") ≡ At 0
+unfolding class_of skip_from run_length all_digits singles mark_of lexeme_of scan_of over_text first_refused
 integer-and-unit = refl
 
-thirty_two : firstRefused (bytes "a2345678901234567890123456789012") ≡ Nowhere
-unfolding classOf skipFrom runLength allDigits singles mark_of lexemeOf scanOf overText firstRefused
+thirty_two : first_refused (bytes "a2345678901234567890123456789012") ≡ Nowhere
+unfolding class_of skip_from run_length all_digits singles mark_of lexeme_of scan_of over_text first_refused
 thirty_two = refl
 
-thirty-three : firstRefused (bytes "a23456789012345678901234567890123") ≡ At 0
-unfolding classOf skipFrom runLength allDigits singles mark_of lexemeOf scanOf overText firstRefused
-thirty-three = refl
+thirty_three : first_refused (bytes "a23456789012345678901234567890123") ≡ At 0
+unfolding class_of skip_from run_length all_digits singles mark_of lexeme_of scan_of over_text first_refused
+thirty_three = refl
 
 -- COMMENTS
 
-to-the-end-of-text : firstRefused (bytes "a --") ≡ Nowhere
-unfolding classOf skipFrom runLength allDigits singles mark_of lexemeOf scanOf overText firstRefused
-to-the-end-of-text = refl
+to_the_end_of_text : first_refused (bytes "a --") ≡ Nowhere
+unfolding class_of skip_from run_length all_digits singles mark_of lexeme_of scan_of over_text first_refused
+to_the_end_of_text = refl
 
-four-ends : tokensOf (bytes "a--b\nc--d" ++ 11 ∷ bytes "e--f" ++ 12 ∷ bytes "g--h\ri") ≡ at 0 (name (bytes "a")) ∷ at 5 (name (bytes "c")) ∷ at 10 (name (bytes "e")) ∷ at 15 (name (bytes "g")) ∷ at 20 (name (bytes "i")) ∷ []
-unfolding classOf skipFrom runLength allDigits singles mark_of lexemeOf scanOf overText tokensOf subset others vocabulary rowFrom row_of tokenAt wordToken same_list
+four-ends : tokens_of (bytes "a--b\nc--d" ++ 11 ∷ bytes "e--f" ++ 12 ∷ bytes "g--h\ri") ≡ at 0 (name (bytes "a")) ∷ at 5 (name (bytes "c")) ∷ at 10 (name (bytes "e")) ∷ at 15 (name (bytes "g")) ∷ at 20 (name (bytes "i")) ∷ []
+unfolding class_of skip_from run_length all_digits singles mark_of lexeme_of scan_of over_text tokens_of subset others vocabulary row_from row_of token_at word_token same_list
 four-ends = refl
 
-any-low-byte : firstRefused (bytes "--" ++ 0 ∷ 127 ∷ bytes "\"$_") ≡ Nowhere
-unfolding classOf skipFrom runLength allDigits singles mark_of lexemeOf scanOf overText firstRefused
-any-low-byte = refl
+any_low_byte : first_refused (bytes "--" ++ 0 ∷ 127 ∷ bytes "\"$_") ≡ Nowhere
+unfolding class_of skip_from run_length all_digits singles mark_of lexeme_of scan_of over_text first_refused
+any_low_byte = refl
 
 -- BYTES OF 128 OR MORE
 
-high-in-comment : firstRefused (bytes "a -- " ++ 128 ∷ []) ≡ At 5
-unfolding classOf skipFrom runLength allDigits singles mark_of lexemeOf scanOf overText firstRefused
-high-in-comment = refl
+high_in_comment : first_refused (bytes "a -- " ++ 128 ∷ []) ≡ At 5
+unfolding class_of skip_from run_length all_digits singles mark_of lexeme_of scan_of over_text first_refused
+high_in_comment = refl
 
-high-behind-a-word : firstRefused (bytes "ab" ++ 128 ∷ []) ≡ At 2
-unfolding classOf skipFrom runLength allDigits singles mark_of lexemeOf scanOf overText firstRefused
-high-behind-a-word = refl
+high_behind_a_word : first_refused (bytes "ab" ++ 128 ∷ []) ≡ At 2
+unfolding class_of skip_from run_length all_digits singles mark_of lexeme_of scan_of over_text first_refused
+high_behind_a_word = refl
 
-high-behind-no-word : firstRefused (bytes "a_" ++ 128 ∷ []) ≡ At 0
-unfolding classOf skipFrom runLength allDigits singles mark_of lexemeOf scanOf overText firstRefused
-high-behind-no-word = refl
+high_behind_no_word : first_refused (bytes "a_" ++ 128 ∷ []) ≡ At 0
+unfolding class_of skip_from run_length all_digits singles mark_of lexeme_of scan_of over_text first_refused
+high_behind_no_word = refl
 
-first-of-two : firstRefused (bytes "a_ " ++ 255 ∷ []) ≡ At 0
-unfolding classOf skipFrom runLength allDigits singles mark_of lexemeOf scanOf overText firstRefused
-first-of-two = refl
+first_of_two : first_refused (bytes "a_ " ++ 255 ∷ []) ≡ At 0
+unfolding class_of skip_from run_length all_digits singles mark_of lexeme_of scan_of over_text first_refused
+first_of_two = refl

@@ -3,65 +3,65 @@
 use Rattle.std.specs.Prelude.{ℕ, ◌+◌, ◌≡◌, refl, Bool, true, false, not, List, [], ◌∷◌, ltb, get_or, length}
 use Rattle.laws.specs.Pick.{pick}
 use Rattle.laws.specs.Text.{bytes}
-use Rattle.lexis.specs.Byte.{classOf, inRun, isLetter, isDigit, isUnderscore}
+use Rattle.lexis.specs.Byte.{class_of, in_run, is_letter, is_digit, is_underscore}
 use Rattle.lexis.specs.declared.run.Shape.{Shape}
 use Rattle.lexis.specs.declared.run.Shape.TheVariants.{Word, Integer, Broken}
 
 -- the place where the run ends that has come as far as i
-unfoldable pub runLength : ℕ → List ℕ → ℕ
-runLength i [] = i
-runLength i (byte ∷ text) = let longer = runLength (i + 1) text in pick (inRun (classOf byte)) longer i
+unfoldable pub run_length : ℕ → List ℕ → ℕ
+run_length i [] = i
+run_length i (byte ∷ text) = let longer = run_length (i + 1) text in pick (in_run (class_of byte)) longer i
 
-unfoldable pub allDigits : List ℕ → Bool
-allDigits [] = true
-allDigits (byte ∷ run) = let others = allDigits run in pick (isDigit (classOf byte)) others false
+unfoldable pub all_digits : List ℕ → Bool
+all_digits [] = true
+all_digits (byte ∷ run) = let others = all_digits run in pick (is_digit (class_of byte)) others false
 
 -- no two underscores side by side, and none last; after says that one stands before
 unfoldable pub singles : (after : Bool) → List ℕ → Bool
 singles after [] = not after
 singles after (byte ∷ run) =
-    let others = singles (isUnderscore (classOf byte)) run in
-    pick (pick after (isUnderscore (classOf byte)) false) false others
+    let others = singles (is_underscore (class_of byte)) run in
+    pick (pick after (is_underscore (class_of byte)) false) false others
 
 -- the longest word
-abbrev pub longestWord : ℕ
-longestWord = 32
+abbrev pub longest_word : ℕ
+longest_word = 32
 
 -- an integer is digits only; a word is a letter, then letters, digits and single underscores, none last
 abbrev pub shape_of : List ℕ → Shape
 shape_of run =
-    pick (allDigits run) Integer
-    (pick (ltb longestWord (length run)) Broken
-    (pick (singles false run) (pick (isLetter (classOf (get_or run 0 0))) Word Broken) Broken))
+    pick (all_digits run) Integer
+    (pick (ltb longest_word (length run)) Broken
+    (pick (singles false run) (pick (is_letter (class_of (get_or run 0 0))) Word Broken) Broken))
 
-word-of-32 : shape_of (bytes "a2345678901234567890123456789012") ≡ Word
-unfolding classOf allDigits singles
-word-of-32 = refl
+word_of_32 : shape_of (bytes "a2345678901234567890123456789012") ≡ Word
+unfolding class_of all_digits singles
+word_of_32 = refl
 
-word-of-33 : shape_of (bytes "a23456789012345678901234567890123") ≡ Broken
-unfolding classOf allDigits singles
-word-of-33 = refl
+word_of_33 : shape_of (bytes "a23456789012345678901234567890123") ≡ Broken
+unfolding class_of all_digits singles
+word_of_33 = refl
 
-integer-of-33 : shape_of (bytes "123456789012345678901234567890123") ≡ Integer
-unfolding classOf allDigits singles
-integer-of-33 = refl
+integer_of_33 : shape_of (bytes "123456789012345678901234567890123") ≡ Integer
+unfolding class_of all_digits singles
+integer_of_33 = refl
 
 single : shape_of (bytes "a_b_1") ≡ Word
-unfolding classOf allDigits singles
+unfolding class_of all_digits singles
 single = refl
 
 last : shape_of (bytes "a_") ≡ Broken
-unfolding classOf allDigits singles
+unfolding class_of all_digits singles
 last = refl
 
 double : shape_of (bytes "a__b") ≡ Broken
-unfolding classOf allDigits singles
+unfolding class_of all_digits singles
 double = refl
 
 first : shape_of (bytes "_a") ≡ Broken
-unfolding classOf allDigits singles
+unfolding class_of all_digits singles
 first = refl
 
-digit-first : shape_of (bytes "3ns") ≡ Broken
-unfolding classOf allDigits singles
-digit-first = refl
+digit_first : shape_of (bytes "3ns") ≡ Broken
+unfolding class_of all_digits singles
+digit_first = refl

@@ -1,6 +1,6 @@
 // Blanks and comments, up to the next token.
 ghost use Rattle.std.specs.Prelude.{◌≡◌, false};
-ghost use Rattle.lexis.specs.Blank.{dashesOf, step_of, skipFrom};
+ghost use Rattle.lexis.specs.Blank.{dashes_of, step_of, skip_from};
 
 use crate::byte::{Class, byte_at, class_of};
 
@@ -15,7 +15,7 @@ pub enum Step {
 
 // Two dashes stand at the start of the text.
 pub fn dashes(text: &[u8]) -> bool
-    ensures { result ≡ dashesOf text.now }
+    ensures { result ≡ dashes_of text.now }
 {
     if byte_at(text, 0) == b'-' {
         byte_at(text, 1) == b'-'
@@ -51,7 +51,7 @@ pub enum Skipped {
 }
 
 pub fn skip(text: &[u8]) -> Skipped
-    ensures { result ≡ skipFrom false 0 text.now }
+    ensures { result ≡ skip_from false 0 text.now }
 {
     let mut i = 0;
     let mut inside = false;

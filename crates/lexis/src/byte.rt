@@ -1,6 +1,6 @@
 // The class of a byte.
 ghost use Rattle.std.specs.Prelude.{◌≡◌, get_or};
-ghost use Rattle.lexis.specs.Byte.{classOf};
+ghost use Rattle.lexis.specs.Byte.{class_of};
 
 #[derive(Drop)]
 pub enum Class {
@@ -19,7 +19,7 @@ pub enum Class {
 }
 
 pub fn class_of(byte: u8) -> Class
-    ensures { result ≡ classOf byte }
+    ensures { result ≡ class_of byte }
 {
     match byte {
         b'A'..=b'Z' | b'a'..=b'z' => Class::Letter,

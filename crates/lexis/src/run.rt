@@ -1,12 +1,12 @@
 // An unbroken run of letters, digits and underscores: a word, an integer, or neither.
 ghost use Rattle.std.specs.Prelude.{◌≡◌, false};
-ghost use Rattle.lexis.specs.Run.{runLength, allDigits, singles, shape_of};
+ghost use Rattle.lexis.specs.Run.{run_length, all_digits, singles, shape_of};
 
 use crate::byte::{Class, byte_at, class_of};
 
 // How many bytes at the start of the text are letters, digits or underscores.
 pub fn run_length(text: &[u8]) -> usize
-    ensures { result ≡ runLength 0 text.now }
+    ensures { result ≡ run_length 0 text.now }
 {
     let mut i = 0;
     while i < text.len() {
@@ -24,7 +24,7 @@ pub fn run_length(text: &[u8]) -> usize
 
 // Every byte of the run is a digit.
 pub fn all_digits(run: &[u8]) -> bool
-    ensures { result ≡ allDigits run.now }
+    ensures { result ≡ all_digits run.now }
 {
     let mut i = 0;
     while i < run.len() {

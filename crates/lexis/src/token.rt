@@ -1,6 +1,6 @@
 // The next token of a text, and the first place of a text that the lexical rules refuse.
 ghost use Rattle.std.specs.Prelude.{◌≡◌};
-ghost use Rattle.lexis.specs.Token.{mark_of, runToken, lexemeOf, placed_at, scanOf, firstRefused};
+ghost use Rattle.lexis.specs.Token.{mark_of, run_token, lexeme_of, placed_at, scan_of, first_refused};
 
 use crate::blank::{Skipped, skip};
 use crate::byte::{Class, byte_at, class_of};
@@ -56,7 +56,7 @@ pub fn mark_of(first: u8, second: u8) -> Lexeme
 
 // The token of a run of so many bytes.
 pub fn run_token(shape: Shape, length: usize) -> Lexeme
-    ensures { result ≡ runToken shape length }
+    ensures { result ≡ run_token shape length }
 {
     match shape {
         Shape::Word => Lexeme::Token(Kind::Word, length),
@@ -66,7 +66,7 @@ pub fn run_token(shape: Shape, length: usize) -> Lexeme
 }
 
 pub fn lexeme_of(text: &[u8]) -> Lexeme
-    ensures { result ≡ lexemeOf text.now }
+    ensures { result ≡ lexeme_of text.now }
 {
     if text.len() == 0 {
         return Lexeme::Nothing;
@@ -109,7 +109,7 @@ pub fn placed(start: usize, lexeme: Lexeme) -> Scan
 
 // The first token of a text.
 pub fn next(text: &[u8]) -> Scan
-    ensures { result ≡ scanOf text.now }
+    ensures { result ≡ scan_of text.now }
 {
     match skip(text) {
         Skipped::To(n) => placed(n, lexeme_of(&text[n..])),
@@ -126,7 +126,7 @@ pub enum Refusal {
 
 // The first place of the text that the lexical rules refuse. Each scan is handed the text from the byte after the last token on.
 pub fn first_refused(text: &[u8]) -> Refusal
-    ensures { result ≡ firstRefused text.now }
+    ensures { result ≡ first_refused text.now }
 {
     let mut n = 0;
     while n < text.len() {

@@ -8,50 +8,50 @@ use lib.ListN.{length, get_or, drop, take}
 use lib.Seq.{drop-drop}
 use Rattle.laws.specs.Pick.{same_list}
 use Rattle.laws.specs.Text.{bytes}
-use Rattle.laws.proofs.Picks.{pick-both}
+use Rattle.laws.proofs.Picks.{pick_both}
 use Rattle.words.specs.Token.{Token, name, integer, foreign, fixed, OPEN, CLOSE, COMMA, COLON, SEMICOLON, ARROW, BECOMES}
 use Rattle.words.specs.Integer.{value_of}
-use Rattle.words.specs.Vocabulary.{Row, lower, subset, others, vocabulary, rowFrom, row_of, tokenAt, wordToken}
-use Rattle.lexis.specs.Token.{Placed, scanOf, tokenOf}
+use Rattle.words.specs.Vocabulary.{Row, lower, subset, others, vocabulary, row_from, row_of, token_at, word_token}
+use Rattle.lexis.specs.Token.{Placed, scan_of, token_of}
 use Rattle.lexis.specs.declared.token.Kind.{Kind}
 use Rattle.lexis.specs.declared.token.Kind.TheVariants.{Word, Integer, Open, Close, Comma, Colon, Semicolon, Arrow, Becomes}
 use Rattle.lexis.specs.declared.token.Scan.{Scan}
 use Rattle.lexis.specs.declared.token.Scan.TheVariants.{Token as scanned, End, Refused}
 use Rattle.lexis.proofs.Bounds.{rest-within}
-use Rattle.lexis.proofs.Scans.{tokensAt, tokens-token, tokens-end, made-refused}
+use Rattle.lexis.proofs.Scans.{tokens_at, tokens-token, tokens_end, made-refused}
 use Rattle.look.specs.declared.Look.{Look}
-use Rattle.look.specs.Inside.Looks.{part, kind_of, lookFrom, look_of, tokenOfKind, tokenOfLook}
+use Rattle.look.specs.Inside.Looks.{part, kind_of, look_from, look_of, token_of_kind, token_of_look}
 
 -- THE TOKEN OF A NUMBER is the scan's
 
-row_within : (k : ℕ) (word : List ℕ) (rows : List Row) → rowFrom k word rows ≤ k + length rows
-unfolding rowFrom
+row_within : (k : ℕ) (word : List ℕ) (rows : List Row) → row_from k word rows ≤ k + length rows
+unfolding row_from
 row_within k word [] = omega arith
 row_within k word (r ∷ rows) =
     let h = row_within (k + 1) word rows in
-    pick-both (λ (n : ℕ). n ≤ k + length (r ∷ rows)) (same_list word (bytes r.spelling)) k (rowFrom (k + 1) word rows)
+    pick_both (λ (n : ℕ). n ≤ k + length (r ∷ rows)) (same_list word (bytes r.spelling)) k (row_from (k + 1) word rows)
     (λ e. omega arith) (λ e. omega arith)
 
-row-most : (run : List ℕ) → row_of run ≤ 108
+row_most : (run : List ℕ) → row_of run ≤ 108
 unfolding row_of subset others vocabulary
-row-most run = row_within 0 (lower run) vocabulary
+row_most run = row_within 0 (lower run) vocabulary
 
 -- up to the end of xs, the default may as well stand behind it
-getD-behind : {A : Type 0} (xs : List A) (n : ℕ) (d e : A) (ys : List A) → n ≤ length xs → get_or xs n d ≡ get_or (xs ++ d ∷ ys) n e
-getD-behind [] zero d e ys h = refl
-getD-behind [] (suc n) d e ys h = absurd (omega arith)
-getD-behind (x ∷ xs) zero d e ys h = refl
-getD-behind (x ∷ xs) (suc n) d e ys h = getD-behind xs n d e ys (omega arith)
+get_d_behind : {A : Type 0} (xs : List A) (n : ℕ) (d e : A) (ys : List A) → n ≤ length xs → get_or xs n d ≡ get_or (xs ++ d ∷ ys) n e
+get_d_behind [] zero d e ys h = refl
+get_d_behind [] (suc n) d e ys h = absurd (omega arith)
+get_d_behind (x ∷ xs) zero d e ys h = refl
+get_d_behind (x ∷ xs) (suc n) d e ys h = get_d_behind xs n d e ys (omega arith)
 
-word-token : (run : List ℕ) → wordToken run ≡ tokenOfKind run (row_of run)
-unfolding subset others vocabulary tokenAt wordToken tokenOfKind
+word-token : (run : List ℕ) → word_token run ≡ token_of_kind run (row_of run)
+unfolding subset others vocabulary token_at word_token token_of_kind
 word-token run =
-    getD-behind (map (λ r. r.token) vocabulary) (row_of run) (name (lower run)) foreign
+    get_d_behind (map (λ r. r.token) vocabulary) (row_of run) (name (lower run)) foreign
     (integer (value_of run) ∷ fixed OPEN ∷ fixed CLOSE ∷ fixed COMMA ∷ fixed COLON ∷ fixed SEMICOLON ∷ fixed ARROW ∷ fixed BECOMES ∷ [])
-    (row-most run)
+    (row_most run)
 
-kind-token : (k : Kind) (run : List ℕ) → tokenOf k run ≡ tokenOfKind run (kind_of k run)
-unfolding tokenOfKind
+kind-token : (k : Kind) (run : List ℕ) → token_of k run ≡ token_of_kind run (kind_of k run)
+unfolding token_of_kind
 kind-token Word run = word-token run
 kind-token Integer run = refl
 kind-token Open run = refl
@@ -63,7 +63,7 @@ kind-token Arrow run = refl
 kind-token Becomes run = refl
 
 kind-below : (k : Kind) (run : List ℕ) → kind_of k run < 117
-kind-below Word run = omega (arith, row-most run)
+kind-below Word run = omega (arith, row_most run)
 kind-below Integer run = omega arith
 kind-below Open run = omega arith
 kind-below Close run = omega arith
@@ -76,7 +76,7 @@ kind-below Becomes run = omega arith
 -- WHAT A LOOK SEES
 
 abbrev pub placed : List ℕ → Look → Placed
-placed s l = record { token = tokenOfLook s l; start = l.start }
+placed s l = record { token = token_of_look s l; start = l.start }
 
 -- a token
 pub record There (s : List ℕ) (at : ℕ) (l : Look) : Type 0 where
@@ -84,14 +84,14 @@ pub record There (s : List ℕ) (at : ℕ) (l : Look) : Type 0 where
   pub after : at ≤ l.start
   pub some : l.start < l.end
   pub inside : l.end ≤ length s
-  pub tokens : tokensAt at (drop at s) ≡ placed s l ∷ tokensAt l.end (drop l.end s)
+  pub tokens : tokens_at at (drop at s) ≡ placed s l ∷ tokens_at l.end (drop l.end s)
 
 -- the end of the text
 pub record Gone (s : List ℕ) (at : ℕ) (l : Look) : Type 0 where
   pub kind : l.kind ≡ 117
   pub start : l.start ≡ length s
   pub end : l.end ≡ length s
-  pub tokens : tokensAt at (drop at s) ≡ []
+  pub tokens : tokens_at at (drop at s) ≡ []
 
 pub data View (s : List ℕ) (at : ℕ) (l : Look) : Type 0 where
   there : There s at l → View s at l
@@ -100,8 +100,8 @@ pub data View (s : List ℕ) (at : ℕ) (l : Look) : Type 0 where
 part_length : (i l : ℕ) → i + l - i ≡ l
 part_length i l = omega arith
 
-by-scan : (s : List ℕ) (at : ℕ) → at ≤ length s → (r : Scan) → scanOf (drop at s) ≡ r → View s at (lookFrom s at r)
-by-scan s at h (scanned k i l) e =
+by_scan : (s : List ℕ) (at : ℕ) → at ≤ length s → (r : Scan) → scan_of (drop at s) ≡ r → View s at (look_from s at r)
+by_scan s at h (scanned k i l) e =
     let w = rest-within s at (scanned k i l) e in
     let run : List ℕ = part s (at + i) (at + i + l) in
     let same : take l (drop i (drop at s)) ≡ run = rw (part_length (at + i) l, drop-drop) in
@@ -111,15 +111,15 @@ by-scan s at h (scanned k i l) e =
       some = omega (arith, w.0);
       inside = omega (arith, w.1);
       tokens = tokens-token s at k i l e
-          ∙ ap (λ (t : Token). record { token = t; start = at + i } ∷ tokensAt (at + i + l) (drop (at + i + l) s)) (ap (tokenOf k) same ∙ kind-token k run);
+          ∙ ap (λ (t : Token). record { token = t; start = at + i } ∷ tokens_at (at + i + l) (drop (at + i + l) s)) (ap (token_of k) same ∙ kind-token k run);
     }
-by-scan s at h End e = gone record { kind = refl; start = refl; end = refl; tokens = tokens-end s at e }
-by-scan s at h (Refused p) e =
+by_scan s at h End e = gone record { kind = refl; start = refl; end = refl; tokens = tokens_end s at e }
+by_scan s at h (Refused p) e =
     gone record { kind = refl; start = refl; end = refl; tokens = made-refused (λ token rest. token ∷ rest) [] (λ place. []) at (drop at s) p e }
 
 pub seen : {s : List ℕ} {at : ℕ} {l : Look} → at ≤ length s → l ≡ look_of s at → View s at l
 unfolding look_of
-seen {s} {at} h e = subst (View s at) (sym e) (by-scan s at h (scanOf (drop at s)) refl)
+seen {s} {at} h e = subst (View s at) (sym e) (by_scan s at h (scan_of (drop at s)) refl)
 
 pub seen-there : {s : List ℕ} {at : ℕ} {l : Look} → at ≤ length s → l ≡ look_of s at → (l.kind ≡ 117 → ⊥) → There s at l
 seen-there {s} {at} {l} h e f = go (seen h e)

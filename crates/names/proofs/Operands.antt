@@ -6,33 +6,33 @@ use mathlib.Core.List.{List}
 use Rattle.words.specs.Token.{Name, Chain}
 use Rattle.syntax.specs.Tree.{Expression, Tail, More, Factor, Primary, expression, alone, joined, chained, enough, more, plain, negated, named, constant, bracketed}
 use Rattle.syntax.specs.Circuit.{Formula, combined}
-use Rattle.syntax.specs.Sentence.{expressionNest, tailNest, moreNest, factorNest, primaryNest}
+use Rattle.syntax.specs.Sentence.{expression_nest, tail_nest, more_nest, factor_nest, primary_nest}
 use Rattle.rules.specs.Sized.{operands}
-use Rattle.names.specs.CircuitOf.{chainOperator, expressionFormula, tailFormula, moreFormula, factorFormula, primaryFormula}
+use Rattle.names.specs.CircuitOf.{chain_operator, expression_formula, tail_formula, more_formula, factor_formula, primary_formula}
 
 module _ (ns : List Name) where
   mutual
     unfolding operands
 
-    pub expressionOperands : (x : Expression) → operands (expressionFormula x ns) ≤ expressionNest x + 2
-    expressionOperands (expression f t) = omega (arith, tailOperands t (factorFormula f ns), factorOperands f)
+    pub expression_operands : (x : Expression) → operands (expression_formula x ns) ≤ expression_nest x + 2
+    expression_operands (expression f t) = omega (arith, tail_operands t (factor_formula f ns), factor_operands f)
 
-    tailOperands : (t : Tail) (a : Formula) → operands (tailFormula t ns a) ≤ max (operands a) (tailNest t + 2)
-    tailOperands alone a = omega arith
-    tailOperands (joined o f) a = omega (arith, factorOperands f)
-    tailOperands (chained c f m) a =
-        omega (arith, moreOperands m c (combined (chainOperator c) a (factorFormula f ns)), factorOperands f)
+    tail_operands : (t : Tail) (a : Formula) → operands (tail_formula t ns a) ≤ max (operands a) (tail_nest t + 2)
+    tail_operands alone a = omega arith
+    tail_operands (joined o f) a = omega (arith, factor_operands f)
+    tail_operands (chained c f m) a =
+        omega (arith, more_operands m c (combined (chain_operator c) a (factor_formula f ns)), factor_operands f)
 
-    moreOperands : (m : More) (c : Chain) (a : Formula) → operands (moreFormula m ns c a) ≤ max (operands a) (moreNest m + 2)
-    moreOperands enough c a = omega arith
-    moreOperands (more f m) c a =
-        omega (arith, moreOperands m c (combined (chainOperator c) a (factorFormula f ns)), factorOperands f)
+    more_operands : (m : More) (c : Chain) (a : Formula) → operands (more_formula m ns c a) ≤ max (operands a) (more_nest m + 2)
+    more_operands enough c a = omega arith
+    more_operands (more f m) c a =
+        omega (arith, more_operands m c (combined (chain_operator c) a (factor_formula f ns)), factor_operands f)
 
-    factorOperands : (f : Factor) → operands (factorFormula f ns) ≤ factorNest f + 1
-    factorOperands (plain p) = primaryOperands p
-    factorOperands (negated p) = primaryOperands p
+    factor_operands : (f : Factor) → operands (factor_formula f ns) ≤ factor_nest f + 1
+    factor_operands (plain p) = primary_operands p
+    factor_operands (negated p) = primary_operands p
 
-    primaryOperands : (p : Primary) → operands (primaryFormula p ns) ≤ primaryNest p + 1
-    primaryOperands (named n) = omega arith
-    primaryOperands (constant b) = omega arith
-    primaryOperands (bracketed x) = omega (arith, expressionOperands x)
+    primary_operands : (p : Primary) → operands (primary_formula p ns) ≤ primary_nest p + 1
+    primary_operands (named n) = omega arith
+    primary_operands (constant b) = omega arith
+    primary_operands (bracketed x) = omega (arith, expression_operands x)

@@ -7,35 +7,35 @@ use mathlib.Core.Path.{◌≡◌, refl}
 use mathlib.Core.List.{List, [], ◌∷◌, ◌++◌, map}
 use Rattle.laws.specs.Pick.{same_list}
 use Rattle.laws.specs.Text.{bytes}
-use Rattle.words.specs.Vocabulary.{subset, others, vocabulary, rowFrom, row_of, tokenAt, wordToken}
-use Rattle.lexis.specs.Byte.{classOf}
-use Rattle.lexis.specs.Blank.{skipFrom}
-use Rattle.lexis.specs.Run.{runLength, allDigits, singles}
-use Rattle.lexis.specs.Token.{mark_of, lexemeOf, scanOf, overText, firstRefused, tokensOf}
+use Rattle.words.specs.Vocabulary.{subset, others, vocabulary, row_from, row_of, token_at, word_token}
+use Rattle.lexis.specs.Byte.{class_of}
+use Rattle.lexis.specs.Blank.{skip_from}
+use Rattle.lexis.specs.Run.{run_length, all_digits, singles}
+use Rattle.lexis.specs.Token.{mark_of, lexeme_of, scan_of, over_text, first_refused, tokens_of}
 use Rattle.syntax.proofs.Theorem.{read}
-use Rattle.syntax.proofs.Examples.{treeA}
+use Rattle.syntax.proofs.Examples.{tree_a}
 use Rattle.names.specs.Judge.{judged}
 use Rattle.names.specs.Text.{Answer, accepts, refuses, Gets}
-use Rattle.names.proofs.Answer.{answerTo, answers}
+use Rattle.names.proofs.Answer.{answer_to, answers}
 
 -- CASE A
 
-abbrev pub textA : List ℕ
-textA =
+abbrev pub text_a : List ℕ
+text_a =
     bytes "entity pair is end;\narchitecture a of pair is\n  signal q, d : boolean;\nbegin\n"
     ++ bytes "  process (q) begin q <= transport not q after 3 ns; end process;\n  process (q) begin d <= transport not q; end process;\nend;\n"
 
 -- what a text gets, opened to be computed
 answer : List ℕ → Answer
-unfolding answerTo read dec_le judged same_list firstRefused tokensOf overText scanOf lexemeOf mark_of skipFrom runLength allDigits singles classOf wordToken tokenAt row_of rowFrom vocabulary others subset
-answer text = answerTo text
+unfolding answer_to read dec_le judged same_list first_refused tokens_of over_text scan_of lexeme_of mark_of skip_from run_length all_digits singles class_of word_token token_at row_of row_from vocabulary others subset
+answer text = answer_to text
 
-computed-A : answerTo textA ≡ accepts treeA
+computed_a : answer_to text_a ≡ accepts tree_a
 unfolding answer
-computed-A = refl
+computed_a = refl
 
-pub case-A : Gets textA (accepts treeA)
-case-A = (answers textA (accepts treeA)).0 computed-A
+pub case_a_lem : Gets text_a (accepts tree_a)
+case_a_lem = (answers text_a (accepts tree_a)).0 computed_a
 
 -- THE CASES: a text, and its number and place, or (0, 0) where it is accepted
 
@@ -64,6 +64,6 @@ cases =
     ∷ (assigns "x", (5, 101)) ∷ (assigns "x or", (3, 105)) ∷ []
 
 -- each text of the cases gets its answer
-pub cases-right : map (λ c. numbered (answerTo c.0)) cases ≡ map (λ c. c.1) cases
+pub cases-right : map (λ c. numbered (answer_to c.0)) cases ≡ map (λ c. c.1) cases
 unfolding answer
 cases-right = refl

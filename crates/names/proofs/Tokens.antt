@@ -10,97 +10,97 @@ use Rattle.words.specs.Token.{Token, Name, Fixed, Chain, fixed, IS, ENTITY, ARCH
 use Rattle.syntax.specs.Tree.{Expression, Tail, More, Factor, Primary, expression, alone, joined, chained, enough, more, plain, negated, named, constant, bracketed}
 use Rattle.syntax.specs.Tree.{Delay, Statements, Statement, Otherwise, immediate, after, done, also, assignment, conditional, null, missing, otherwise}
 use Rattle.syntax.specs.Tree.{Declaration, Sensitivity, Process, Design, declaration, unlisted, listed, process, design}
-use Rattle.syntax.specs.Tree.{expressionText, tailText, moreText, factorText, primaryText, delayText, statementsText, statementText, otherwiseText, wordText, nameText, labelText, commaText, initialText, declarationText, sensitivityText, processText, declarationsText, processesText, designText}
-use Rattle.names.specs.Roles.{Role, declares, listens, passes, expressionRoles, tailRoles, moreRoles, factorRoles, primaryRoles, delayRoles, statementsRoles, statementRoles, otherwiseRoles, wordRoles, closingRoles, labelRoles, commaRoles, initialRoles, declarationRoles, sensitivityRoles, processRoles, declarationsRoles, processesRoles, designRoles}
+use Rattle.syntax.specs.Tree.{expression_text, tail_text, more_text, factor_text, primary_text, delay_text, statements_text, statement_text, otherwise_text, word_text, name_text, label_text, comma_text, initial_text, declaration_text, sensitivity_text, process_text, declarations_text, processes_text, design_text}
+use Rattle.names.specs.Roles.{Role, declares, listens, passes, expression_roles, tail_roles, more_roles, factor_roles, primary_roles, delay_roles, statements_roles, statement_roles, otherwise_roles, word_roles, closing_roles, label_roles, comma_roles, initial_roles, declaration_roles, sensitivity_roles, process_roles, declarations_roles, processes_roles, design_roles}
 
 -- as many roles as tokens
 abbrev Paired : List Role → List Token → Type 0
 Paired r t = length r ≡ length t
 
 mutual
-  expressionPaired : (e : Expression) (r : List Role) (t : List Token) → Paired r t → Paired (expressionRoles e r) (expressionText e t)
-  expressionPaired (expression f o) r t h = factorPaired f _ _ (tailPaired o r t h)
+  expression_paired : (e : Expression) (r : List Role) (t : List Token) → Paired r t → Paired (expression_roles e r) (expression_text e t)
+  expression_paired (expression f o) r t h = factor_paired f _ _ (tail_paired o r t h)
 
-  tailPaired : (o : Tail) (r : List Role) (t : List Token) → Paired r t → Paired (tailRoles o r) (tailText o t)
-  tailPaired alone r t h = h
-  tailPaired (joined o f) r t h = ap suc (factorPaired f r t h)
-  tailPaired (chained c f m) r t h = ap suc (factorPaired f _ _ (morePaired m c r t h))
+  tail_paired : (o : Tail) (r : List Role) (t : List Token) → Paired r t → Paired (tail_roles o r) (tail_text o t)
+  tail_paired alone r t h = h
+  tail_paired (joined o f) r t h = ap suc (factor_paired f r t h)
+  tail_paired (chained c f m) r t h = ap suc (factor_paired f _ _ (more_paired m c r t h))
 
-  morePaired : (m : More) (c : Chain) (r : List Role) (t : List Token) → Paired r t → Paired (moreRoles m r) (moreText m c t)
-  morePaired enough c r t h = h
-  morePaired (more f m) c r t h = ap suc (factorPaired f _ _ (morePaired m c r t h))
+  more_paired : (m : More) (c : Chain) (r : List Role) (t : List Token) → Paired r t → Paired (more_roles m r) (more_text m c t)
+  more_paired enough c r t h = h
+  more_paired (more f m) c r t h = ap suc (factor_paired f _ _ (more_paired m c r t h))
 
-  factorPaired : (f : Factor) (r : List Role) (t : List Token) → Paired r t → Paired (factorRoles f r) (factorText f t)
-  factorPaired (plain p) r t h = primaryPaired p r t h
-  factorPaired (negated p) r t h = ap suc (primaryPaired p r t h)
+  factor_paired : (f : Factor) (r : List Role) (t : List Token) → Paired r t → Paired (factor_roles f r) (factor_text f t)
+  factor_paired (plain p) r t h = primary_paired p r t h
+  factor_paired (negated p) r t h = ap suc (primary_paired p r t h)
 
-  primaryPaired : (p : Primary) (r : List Role) (t : List Token) → Paired r t → Paired (primaryRoles p r) (primaryText p t)
-  primaryPaired (named n) r t h = ap suc h
-  primaryPaired (constant b) r t h = ap suc h
-  primaryPaired (bracketed e) r t h = ap suc (expressionPaired e _ _ (ap suc h))
+  primary_paired : (p : Primary) (r : List Role) (t : List Token) → Paired r t → Paired (primary_roles p r) (primary_text p t)
+  primary_paired (named n) r t h = ap suc h
+  primary_paired (constant b) r t h = ap suc h
+  primary_paired (bracketed e) r t h = ap suc (expression_paired e _ _ (ap suc h))
 
-delayPaired : (d : Delay) (r : List Role) (t : List Token) → Paired r t → Paired (delayRoles d r) (delayText d t)
-delayPaired immediate r t h = h
-delayPaired (after n u) r t h = ap suc (ap suc (ap suc h))
+delay_paired : (d : Delay) (r : List Role) (t : List Token) → Paired r t → Paired (delay_roles d r) (delay_text d t)
+delay_paired immediate r t h = h
+delay_paired (after n u) r t h = ap suc (ap suc (ap suc h))
 
 mutual
-  statementsPaired : (ss : Statements) (r : List Role) (t : List Token) → Paired r t → Paired (statementsRoles ss r) (statementsText ss t)
-  statementsPaired done r t h = h
-  statementsPaired (also s ss) r t h = statementPaired s _ _ (statementsPaired ss r t h)
+  statements_paired : (ss : Statements) (r : List Role) (t : List Token) → Paired r t → Paired (statements_roles ss r) (statements_text ss t)
+  statements_paired done r t h = h
+  statements_paired (also s ss) r t h = statement_paired s _ _ (statements_paired ss r t h)
 
-  statementPaired : (s : Statement) (r : List Role) (t : List Token) → Paired r t → Paired (statementRoles s r) (statementText s t)
-  statementPaired (assignment n e d) r t h = ap suc (ap suc (ap suc (expressionPaired e _ _ (delayPaired d _ _ (ap suc h)))))
-  statementPaired (conditional e ss o) r t h =
-      ap suc (expressionPaired e _ _ (ap suc (statementsPaired ss _ _ (otherwisePaired o _ _ (ap suc (ap suc (ap suc h)))))))
-  statementPaired null r t h = ap suc (ap suc h)
+  statement_paired : (s : Statement) (r : List Role) (t : List Token) → Paired r t → Paired (statement_roles s r) (statement_text s t)
+  statement_paired (assignment n e d) r t h = ap suc (ap suc (ap suc (expression_paired e _ _ (delay_paired d _ _ (ap suc h)))))
+  statement_paired (conditional e ss o) r t h =
+      ap suc (expression_paired e _ _ (ap suc (statements_paired ss _ _ (otherwise_paired o _ _ (ap suc (ap suc (ap suc h)))))))
+  statement_paired null r t h = ap suc (ap suc h)
 
-  otherwisePaired : (o : Otherwise) (r : List Role) (t : List Token) → Paired r t → Paired (otherwiseRoles o r) (otherwiseText o t)
-  otherwisePaired missing r t h = h
-  otherwisePaired (otherwise ss) r t h = ap suc (statementsPaired ss r t h)
+  otherwise_paired : (o : Otherwise) (r : List Role) (t : List Token) → Paired r t → Paired (otherwise_roles o r) (otherwise_text o t)
+  otherwise_paired missing r t h = h
+  otherwise_paired (otherwise ss) r t h = ap suc (statements_paired ss r t h)
 
-wordPaired : (b : Bool) (w : Fixed) (r : List Role) (t : List Token) → Paired r t → Paired (wordRoles b r) (wordText b w t)
-wordPaired true w r t h = ap suc h
-wordPaired false w r t h = h
+word_paired : (b : Bool) (w : Fixed) (r : List Role) (t : List Token) → Paired r t → Paired (word_roles b r) (word_text b w t)
+word_paired true w r t h = ap suc h
+word_paired false w r t h = h
 
-closingPaired : (o c : Option Name) (r : List Role) (t : List Token) → Paired r t → Paired (closingRoles o c r) (nameText c t)
-closingPaired o none r t h = h
-closingPaired o (some n) r t h = ap suc h
+closing_paired : (o c : Option Name) (r : List Role) (t : List Token) → Paired r t → Paired (closing_roles o c r) (name_text c t)
+closing_paired o none r t h = h
+closing_paired o (some n) r t h = ap suc h
 
-initialPaired : (i : Option Bool) (r : List Role) (t : List Token) → Paired r t → Paired (initialRoles i r) (initialText i t)
-initialPaired none r t h = h
-initialPaired (some b) r t h = ap suc (ap suc h)
+initial_paired : (i : Option Bool) (r : List Role) (t : List Token) → Paired r t → Paired (initial_roles i r) (initial_text i t)
+initial_paired none r t h = h
+initial_paired (some b) r t h = ap suc (ap suc h)
 
-labelPaired : (l : Option Name) (r : List Role) (t : List Token) → Paired r t → Paired (labelRoles l r) (labelText l t)
-labelPaired none r t h = h
-labelPaired (some n) r t h = ap suc (ap suc h)
+label_paired : (l : Option Name) (r : List Role) (t : List Token) → Paired r t → Paired (label_roles l r) (label_text l t)
+label_paired none r t h = h
+label_paired (some n) r t h = ap suc (ap suc h)
 
-commaPaired : (f : Name → Role) (ns : List Name) (r : List Role) (t : List Token) → Paired r t → Paired (commaRoles f ns r) (commaText ns t)
-commaPaired f [] r t h = h
-commaPaired f (n ∷ ns) r t h = ap suc (ap suc (commaPaired f ns r t h))
+comma_paired : (f : Name → Role) (ns : List Name) (r : List Role) (t : List Token) → Paired r t → Paired (comma_roles f ns r) (comma_text ns t)
+comma_paired f [] r t h = h
+comma_paired f (n ∷ ns) r t h = ap suc (ap suc (comma_paired f ns r t h))
 
-declarationPaired : (d : Declaration) (r : List Role) (t : List Token) → Paired r t → Paired (declarationRoles d r) (declarationText d t)
-declarationPaired (declaration n ns i) r t h =
-    ap suc (ap suc (commaPaired declares ns _ _ (ap suc (ap suc (initialPaired i _ _ (ap suc h))))))
+declaration_paired : (d : Declaration) (r : List Role) (t : List Token) → Paired r t → Paired (declaration_roles d r) (declaration_text d t)
+declaration_paired (declaration n ns i) r t h =
+    ap suc (ap suc (comma_paired declares ns _ _ (ap suc (ap suc (initial_paired i _ _ (ap suc h))))))
 
-sensitivityPaired : (s : Sensitivity) (r : List Role) (t : List Token) → Paired r t → Paired (sensitivityRoles s r) (sensitivityText s t)
-sensitivityPaired unlisted r t h = h
-sensitivityPaired (listed n ns) r t h = ap suc (ap suc (commaPaired listens ns _ _ (ap suc h)))
+sensitivity_paired : (s : Sensitivity) (r : List Role) (t : List Token) → Paired r t → Paired (sensitivity_roles s r) (sensitivity_text s t)
+sensitivity_paired unlisted r t h = h
+sensitivity_paired (listed n ns) r t h = ap suc (ap suc (comma_paired listens ns _ _ (ap suc h)))
 
-processPaired : (p : Process) (r : List Role) (t : List Token) → Paired r t → Paired (processRoles p r) (processText p t)
-processPaired (process l s i b c) r t h =
-    labelPaired l _ _ (ap suc (sensitivityPaired s _ _ (wordPaired i IS _ _ (ap suc
-    (statementsPaired b _ _ (ap suc (ap suc (closingPaired l c _ _ (ap suc h)))))))))
+process_paired : (p : Process) (r : List Role) (t : List Token) → Paired r t → Paired (process_roles p r) (process_text p t)
+process_paired (process l s i b c) r t h =
+    label_paired l _ _ (ap suc (sensitivity_paired s _ _ (word_paired i IS _ _ (ap suc
+    (statements_paired b _ _ (ap suc (ap suc (closing_paired l c _ _ (ap suc h)))))))))
 
-declarationsPaired : (ds : List Declaration) (r : List Role) (t : List Token) → Paired r t → Paired (declarationsRoles ds r) (declarationsText ds t)
-declarationsPaired [] r t h = h
-declarationsPaired (d ∷ ds) r t h = declarationPaired d _ _ (declarationsPaired ds r t h)
+declarations_paired : (ds : List Declaration) (r : List Role) (t : List Token) → Paired r t → Paired (declarations_roles ds r) (declarations_text ds t)
+declarations_paired [] r t h = h
+declarations_paired (d ∷ ds) r t h = declaration_paired d _ _ (declarations_paired ds r t h)
 
-processesPaired : (ps : List Process) (r : List Role) (t : List Token) → Paired r t → Paired (processesRoles ps r) (processesText ps t)
-processesPaired [] r t h = h
-processesPaired (p ∷ ps) r t h = processPaired p _ _ (processesPaired ps r t h)
+processes_paired : (ps : List Process) (r : List Role) (t : List Token) → Paired r t → Paired (processes_roles ps r) (processes_text ps t)
+processes_paired [] r t h = h
+processes_paired (p ∷ ps) r t h = process_paired p _ _ (processes_paired ps r t h)
 
-pub as_many : (d : Design) → length (designRoles d) ≡ length (designText d)
+pub as_many : (d : Design) → length (design_roles d) ≡ length (design_text d)
 as_many (design e w c a o ds ps w' c') =
-    ap suc (ap suc (ap suc (ap suc (wordPaired w ENTITY _ _ (closingPaired (some e) c _ _ (ap suc
-    (ap suc (ap suc (ap suc (ap suc (ap suc (declarationsPaired ds _ _ (ap suc (processesPaired ps _ _ (ap suc
-    (wordPaired w' ARCHITECTURE _ _ (closingPaired (some a) c' (passes ∷ []) (fixed SEMICOLON ∷ []) refl)))))))))))))))))
+    ap suc (ap suc (ap suc (ap suc (word_paired w ENTITY _ _ (closing_paired (some e) c _ _ (ap suc
+    (ap suc (ap suc (ap suc (ap suc (ap suc (declarations_paired ds _ _ (ap suc (processes_paired ps _ _ (ap suc
+    (word_paired w' ARCHITECTURE _ _ (closing_paired (some a) c' (passes ∷ []) (fixed SEMICOLON ∷ []) refl)))))))))))))))))

@@ -22,9 +22,9 @@ Fine y [] = Unit {0}
 Fine y (r ∷ rs) = Clear (faults y r) × Fine (next y r) rs
 
 -- the state after all tokens
-abbrev pub afterAll : State → List Role → State
-afterAll y [] = y
-afterAll y (r ∷ rs) = afterAll (next y r) rs
+abbrev pub after_all : State → List Role → State
+after_all y [] = y
+after_all y (r ∷ rs) = after_all (next y r) rs
 
 -- the numbers of the rows are above n; they rise
 abbrev pub Above : ℕ → List (ℕ × Bool) → Type 0
@@ -105,43 +105,43 @@ ranged y (delays n u) = omega arith
 ranged y (counts k) = omega arith
 ranged y passes = omega arith
 
-in-range : (rows : List (ℕ × Bool)) (n : ℕ) → Ranged rows → Holds n rows → (5 ≤ n) × (n ≤ 10)
-in-range [] n a h = absurd h
-in-range (row ∷ rows) n a (inl e) = (omega (arith, e.0, a.0), omega (arith, e.0, a.1))
-in-range (row ∷ rows) n a (inr h) = in-range rows n a.2 h
+in_range : (rows : List (ℕ × Bool)) (n : ℕ) → Ranged rows → Holds n rows → (5 ≤ n) × (n ≤ 10)
+in_range [] n a h = absurd h
+in_range (row ∷ rows) n a (inl e) = (omega (arith, e.0, a.0), omega (arith, e.0, a.1))
+in_range (row ∷ rows) n a (inr h) = in_range rows n a.2 h
 
-pub five-to-ten : (rs : List Role) (y : State) (k n : ℕ) → AppliesFrom y rs k n → (5 ≤ n) × (n ≤ 10)
-five-to-ten [] y k n a = absurd a
-five-to-ten (r ∷ rs) y zero n a = in-range (faults y r) n (ranged y r) a
-five-to-ten (r ∷ rs) y (suc k) n a = five-to-ten rs (next y r) k n a
+pub five_to_ten : (rs : List Role) (y : State) (k n : ℕ) → AppliesFrom y rs k n → (5 ≤ n) × (n ≤ 10)
+five_to_ten [] y k n a = absurd a
+five_to_ten (r ∷ rs) y zero n a = in_range (faults y r) n (ranged y r) a
+five_to_ten (r ∷ rs) y (suc k) n a = five_to_ten rs (next y r) k n a
 
 -- ALL TOKENS
 
 pub data Decides (y : State) (rs : List Role) (ps : List ℕ) : Judgement → Type 0 where
-  allFine : Fine y rs → Decides y rs ps (fine (afterAll y rs))
-  firstDue : (k : ℕ) {n : ℕ} → First (AppliesFrom y rs) k n → Decides y rs ps (refused n (get_or ps k 0))
+  all_fine : Fine y rs → Decides y rs ps (fine (after_all y rs))
+  first_due : (k : ℕ) {n : ℕ} → First (AppliesFrom y rs) k n → Decides y rs ps (refused n (get_or ps k 0))
 
 pub decides : (rs : List Role) (y : State) (ps : List ℕ) → length rs ≤ length ps → Decides y rs ps (judged y rs ps)
 unfolding judged
-decides [] y ps l = allFine tt
+decides [] y ps l = all_fine tt
 decides (r ∷ rs) y [] l = absurd (omega arith)
 decides (r ∷ rs) y (p ∷ ps) l = go (judge y r p) (one_token (faults y r) p (next y r) (rising y r)) (decides rs (next y r) ps (omega arith))
   where
     later : {j : Judgement} → Clear (faults y r) → Decides (next y r) rs ps j → Decides y (r ∷ rs) (p ∷ ps) j
-    later c (allFine f) = allFine (c, f)
-    later c (firstDue k {n} f) =
-        firstDue (suc k)
+    later c (all_fine f) = all_fine (c, f)
+    later c (first_due k {n} f) =
+        first_due (suc k)
         (record {
           applies = f.applies;
-          lowerNot = f.lowerNot;
-          earlierNot = λ j. elim j [ zero ↦ λ m i. clear_none (faults y r) c m | suc i ↦ λ m h. f.earlierNot i m (omega arith) ];
+          lower_not = f.lower_not;
+          earlier_not = λ j. elim j [ zero ↦ λ m i. clear_none (faults y r) c m | suc i ↦ λ m h. f.earlier_not i m (omega arith) ];
         })
 
     go : (j : Judgement) → OneToken (faults y r) p (next y r) j → Decides (next y r) rs ps (judged (next y r) rs ps)
         → Decides y (r ∷ rs) (p ∷ ps) (onward j (λ z. judged z rs ps))
     go (fine z) (accepted c) d = later c d
     go (refused n q) (turned h f) d =
-        firstDue 0 (record { applies = h; lowerNot = f; earlierNot = λ j m i. absurd (omega arith) })
+        first_due 0 (record { applies = h; lower_not = f; earlier_not = λ j m i. absurd (omega arith) })
 
 -- accepted is that no number applies
 pub fine-none : (rs : List Role) (y : State) → Fine y rs → (k n : ℕ) → ¬ AppliesFrom y rs k n
@@ -149,9 +149,9 @@ fine-none [] y f k n a = a
 fine-none (r ∷ rs) y f zero n a = clear_none (faults y r) f.0 n a
 fine-none (r ∷ rs) y f (suc k) n a = fine-none rs (next y r) f.1 k n a
 
-clear-all : (rows : List (ℕ × Bool)) → ((n : ℕ) → ¬ Holds n rows) → Clear rows
-clear-all [] f = tt
-clear-all (row ∷ rows) f = (go row.1 refl, clear-all rows (λ n h. f n (inr h)))
+clear_all : (rows : List (ℕ × Bool)) → ((n : ℕ) → ¬ Holds n rows) → Clear rows
+clear_all [] f = tt
+clear_all (row ∷ rows) f = (go row.1 refl, clear_all rows (λ n h. f n (inr h)))
   where
     go : (b : Bool) → row.1 ≡ b → b ≡ false
     go true e = absurd (f row.0 (inl (refl, e)))
@@ -159,15 +159,15 @@ clear-all (row ∷ rows) f = (go row.1 refl, clear-all rows (λ n h. f n (inr h)
 
 pub none-fine : (rs : List Role) (y : State) → ((k n : ℕ) → ¬ AppliesFrom y rs k n) → Fine y rs
 none-fine [] y f = tt
-none-fine (r ∷ rs) y f = (clear-all (faults y r) (f 0), none-fine rs (next y r) (λ k. f (suc k)))
+none-fine (r ∷ rs) y f = (clear_all (faults y r) (f 0), none-fine rs (next y r) (λ k. f (suc k)))
 
 -- there is one first
-pub one-first : (A : ℕ → ℕ → Type 0) (j k m n : ℕ) → First A j m → First A k n → (j ≡ k) × (m ≡ n)
-one-first A j k m n a b =
-    let early : ¬ (j < k) = λ h. b.earlierNot j m h a.applies in
-    let late : ¬ (k < j) = λ h. a.earlierNot k n h b.applies in
+pub one_first : (A : ℕ → ℕ → Type 0) (j k m n : ℕ) → First A j m → First A k n → (j ≡ k) × (m ≡ n)
+one_first A j k m n a b =
+    let early : ¬ (j < k) = λ h. b.earlier_not j m h a.applies in
+    let late : ¬ (k < j) = λ h. a.earlier_not k n h b.applies in
     let same : j ≡ k = omega arith in
     let there = rw same at a.applies in
-    let low : ¬ (m < n) = λ h. b.lowerNot m h there in
-    let high : ¬ (n < m) = λ h. a.lowerNot n h (rw same b.applies) in
+    let low : ¬ (m < n) = λ h. b.lower_not m h there in
+    let high : ¬ (n < m) = λ h. a.lower_not n h (rw same b.applies) in
     (same, omega arith)

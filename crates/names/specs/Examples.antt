@@ -10,14 +10,14 @@ use Rattle.syntax.specs.Tree.{Expression, More, Factor, expression, alone, chain
 use Rattle.syntax.specs.Tree.{Delay, Statements, Statement, immediate, after, done, also, assignment, conditional, missing}
 use Rattle.syntax.specs.Tree.{Declaration, Process, Design, declaration, unlisted, listed, process, design}
 use Rattle.syntax.specs.Circuit.{Formula, Actions}
-use Rattle.names.specs.Roles.{Role, designRoles}
-use Rattle.names.specs.Judge.{Judgement, fine, refused, judged, judgedDesign}
-use Rattle.names.specs.CircuitOf.{circuitOf, entityName, signalNames}
+use Rattle.names.specs.Roles.{Role, design_roles}
+use Rattle.names.specs.Judge.{Judgement, fine, refused, judged, judged_design}
+use Rattle.names.specs.CircuitOf.{circuit_of, entity_name, signal_names}
 
 -- tokens counted from k
-abbrev countFrom : ℕ → List Role → List ℕ
-countFrom k [] = []
-countFrom k (r ∷ rs) = k ∷ countFrom (k + 1) rs
+abbrev count_from : ℕ → List Role → List ℕ
+count_from k [] = []
+count_from k (r ∷ rs) = k ∷ count_from (k + 1) rs
 
 abbrev numbered : Judgement → ℕ × ℕ
 numbered (fine y) = (0, 0)
@@ -25,7 +25,7 @@ numbered (refused n k) = (n, k)
 
 answer : Design → ℕ × ℕ
 unfolding judged same_list
-answer d = numbered (judgedDesign d (countFrom 0 (designRoles d)))
+answer d = numbered (judged_design d (count_from 0 (design_roles d)))
 
 -- DESIGNS
 
@@ -76,17 +76,17 @@ unfolding answer
 undeclared-listed = refl
 
 -- a label is no signal, nor is the entity
-label-read : answer (pair (process (some (bytes "p")) unlisted false (one (gets q (bytes "p"))) none ∷ [])) ≡ (5, 25)
+label_read : answer (pair (process (some (bytes "p")) unlisted false (one (gets q (bytes "p"))) none ∷ [])) ≡ (5, 25)
 unfolding answer
-label-read = refl
+label_read = refl
 
 entity-read : answer (pair (does (one (gets q (bytes "e"))) ∷ [])) ≡ (5, 23)
 unfolding answer
 entity-read = refl
 
-other-entity : answer (design (bytes "e") false none (bytes "a") (bytes "a") [] [] false none) ≡ (5, 8)
+other_entity : answer (design (bytes "e") false none (bytes "a") (bytes "a") [] [] false none) ≡ (5, 8)
 unfolding answer
-other-entity = refl
+other_entity = refl
 
 -- 6: SIGNAL OR LABEL ALREADY USED
 
@@ -94,18 +94,18 @@ twice-declared : answer (over (declaration q [] none ∷ declaration q [] none �
 unfolding answer
 twice-declared = refl
 
-label-of-signal : answer (pair (process (some d) unlisted false done none ∷ [])) ≡ (6, 18)
+label_of_signal : answer (pair (process (some d) unlisted false done none ∷ [])) ≡ (6, 18)
 unfolding answer
-label-of-signal = refl
+label_of_signal = refl
 
 twice-labelled : answer (pair (process (some (bytes "p")) unlisted false done none ∷ process (some (bytes "p")) unlisted false done none ∷ [])) ≡ (6, 25)
 unfolding answer
 twice-labelled = refl
 
 -- the entity's and the architecture's names are free
-label-of-entity : answer (pair (process (some (bytes "e")) unlisted false done none ∷ process (some (bytes "a")) unlisted false done none ∷ [])) ≡ (0, 0)
+label_of_entity : answer (pair (process (some (bytes "e")) unlisted false done none ∷ process (some (bytes "a")) unlisted false done none ∷ [])) ≡ (0, 0)
 unfolding answer
-label-of-entity = refl
+label_of_entity = refl
 
 -- 7: CLOSING NAME DIFFERS, OR CLOSES A PROCESS WITHOUT A LABEL
 
@@ -114,17 +114,17 @@ closed : answer (design (bytes "e") true (some (bytes "e")) (bytes "a") (bytes "
 unfolding answer
 closed = refl
 
-entity-misclosed : answer (design (bytes "e") true (some (bytes "a")) (bytes "a") (bytes "e") [] [] false none) ≡ (7, 5)
+entity_misclosed : answer (design (bytes "e") true (some (bytes "a")) (bytes "a") (bytes "e") [] [] false none) ≡ (7, 5)
 unfolding answer
-entity-misclosed = refl
+entity_misclosed = refl
 
-architecture-misclosed : answer (design (bytes "e") false none (bytes "a") (bytes "e") [] [] false (some (bytes "e"))) ≡ (7, 12)
+architecture_misclosed : answer (design (bytes "e") false none (bytes "a") (bytes "e") [] [] false (some (bytes "e"))) ≡ (7, 12)
 unfolding answer
-architecture-misclosed = refl
+architecture_misclosed = refl
 
-process-misclosed : answer (pair (process (some (bytes "p")) unlisted false done (some (bytes "r")) ∷ [])) ≡ (7, 24)
+process_misclosed : answer (pair (process (some (bytes "p")) unlisted false done (some (bytes "r")) ∷ [])) ≡ (7, 24)
 unfolding answer
-process-misclosed = refl
+process_misclosed = refl
 
 unlabelled-closed : answer (pair (process none unlisted false done (some (bytes "p")) ∷ [])) ≡ (7, 22)
 unfolding answer
@@ -135,36 +135,36 @@ unlabelled-closed = refl
 abbrev delayed : Delay → Design
 delayed t = pair (does (one (assignment q (just (plain (constant true))) t)) ∷ [])
 
-longest-seconds : answer (delayed (after 1000 Sec)) ≡ (0, 0)
+longest_seconds : answer (delayed (after 1000 Sec)) ≡ (0, 0)
 unfolding answer
-longest-seconds = refl
+longest_seconds = refl
 
-one-second-more : answer (delayed (after 1001 Sec)) ≡ (8, 25)
+one_second_more : answer (delayed (after 1001 Sec)) ≡ (8, 25)
 unfolding answer
-one-second-more = refl
+one_second_more = refl
 
-no-hours : answer (delayed (after 0 Hr)) ≡ (0, 0)
+no_hours : answer (delayed (after 0 Hr)) ≡ (0, 0)
 unfolding answer
-no-hours = refl
+no_hours = refl
 
-one-femtosecond-more : answer (delayed (after 1_000_000_000_000_000_001 Fs)) ≡ (8, 25)
+one_femtosecond_more : answer (delayed (after 1_000_000_000_000_000_001 Fs)) ≡ (8, 25)
 unfolding answer
-one-femtosecond-more = refl
+one_femtosecond_more = refl
 
 -- 9: ASSIGNMENT TO A SIGNAL THAT AN EARLIER PROCESS ASSIGNS
 
-twice-in-one : answer (pair (does (also (gets q d) (one (gets q q))) ∷ does (one (gets d q)) ∷ [])) ≡ (0, 0)
+twice_in_one : answer (pair (does (also (gets q d) (one (gets q q))) ∷ does (one (gets d q)) ∷ [])) ≡ (0, 0)
 unfolding answer
-twice-in-one = refl
+twice_in_one = refl
 
 in_two : answer (pair (does (one (gets q d)) ∷ does (one (gets d q)) ∷ does (one (gets q q)) ∷ [])) ≡ (9, 40)
 unfolding answer
 in_two = refl
 
 -- it goes by the text: an assignment that never runs counts
-never-run : answer (pair (does (one (conditional (just (plain (constant false))) (one (gets q d)) missing)) ∷ does (one (gets q d)) ∷ [])) ≡ (9, 36)
+never_run : answer (pair (does (one (conditional (just (plain (constant false))) (one (gets q d)) missing)) ∷ does (one (gets q d)) ∷ [])) ≡ (9, 36)
 unfolding answer
-never-run = refl
+never_run = refl
 
 -- 10: 65TH SIGNAL, 65TH PROCESS, 4,097TH INSTRUCTION
 
@@ -175,82 +175,82 @@ names (suc k) = (k ∷ []) ∷ names k
 abbrev signals : ℕ → Design
 signals k = over (declaration q (names k) none ∷ []) []
 
-sixty-four-signals : answer (signals 63) ≡ (0, 0)
+sixty_four_signals : answer (signals 63) ≡ (0, 0)
 unfolding answer
-sixty-four-signals = refl
+sixty_four_signals = refl
 
 -- the 65th name stands 64 commas and names after the first
-sixty-five-signals : answer (signals 64) ≡ (10, 139)
+sixty_five_signals : answer (signals 64) ≡ (10, 139)
 unfolding answer
-sixty-five-signals = refl
+sixty_five_signals = refl
 
 -- at one token the lower number first: a 65th signal that repeats a name is 6
-sixty-fifth-repeats : answer (over (declaration q (names 63 ++ (q ∷ [])) none ∷ []) []) ≡ (6, 139)
+sixty_fifth_repeats : answer (over (declaration q (names 63 ++ (q ∷ [])) none ∷ []) []) ≡ (6, 139)
 unfolding answer
-sixty-fifth-repeats = refl
+sixty_fifth_repeats = refl
 
 abbrev times : ℕ → Process → List Process
 times zero p = []
 times (suc k) p = p ∷ times k p
 
-sixty-four-processes : answer (over [] (times 64 (does done))) ≡ (0, 0)
+sixty_four_processes : answer (over [] (times 64 (does done))) ≡ (0, 0)
 unfolding answer
-sixty-four-processes = refl
+sixty_four_processes = refl
 
 -- at its word `process`, after its label
-sixty-five-processes : answer (over [] (times 64 (does done) ++ (process (some (bytes "p")) unlisted false done none ∷ []))) ≡ (10, 333)
+sixty_five_processes : answer (over [] (times 64 (does done) ++ (process (some (bytes "p")) unlisted false done none ∷ []))) ≡ (10, 333)
 unfolding answer
-sixty-five-processes = refl
+sixty_five_processes = refl
 
 -- `and q`, so many times: two instructions each
-abbrev andMore : ℕ → More
-andMore zero = enough
-andMore (suc k) = more (plain (named q)) (andMore k)
+abbrev and_more : ℕ → More
+and_more zero = enough
+and_more (suc k) = more (plain (named q)) (and_more k)
 
 -- q <= transport f and q and q ..: with 2,047 times `and q`, 4,095 instructions and those of f
 abbrev long : Factor → Statement
-long f = assignment q (expression f (chained AND (plain (named q)) (andMore 2046))) immediate
+long f = assignment q (expression f (chained AND (plain (named q)) (and_more 2046))) immediate
 
-most-instructions : answer (pair (does (one (long (plain (named q)))) ∷ [])) ≡ (0, 0)
+most_instructions_lem : answer (pair (does (one (long (plain (named q)))) ∷ [])) ≡ (0, 0)
 unfolding answer
-most-instructions = refl
+most_instructions_lem = refl
 
-one-instruction-more : answer (pair (does (one (long (negated (named q)))) ∷ [])) ≡ (10, 4118)
+one_instruction_more : answer (pair (does (one (long (negated (named q)))) ∷ [])) ≡ (10, 4118)
 unfolding answer
-one-instruction-more = refl
+one_instruction_more = refl
 
 -- q <= transport not q and q and q ..: 4,095 instructions
 abbrev almost : Statement
-almost = assignment q (expression (negated (named q)) (chained AND (plain (named q)) (andMore 2045))) immediate
+almost = assignment q (expression (negated (named q)) (chained AND (plain (named q)) (and_more 2045))) immediate
 
 -- an `if` counts as two at its word; an assignment counts at its target, and its expression after it
-if-too-many : answer (pair (does (also almost (one (conditional (just (plain (named q))) done missing))) ∷ [])) ≡ (10, 4118)
+if_too_many : answer (pair (does (also almost (one (conditional (just (plain (named q))) done missing))) ∷ [])) ≡ (10, 4118)
 unfolding answer
-if-too-many = refl
+if_too_many = refl
 
 target_fits : answer (pair (does (also almost (one (gets q q))) ∷ [])) ≡ (10, 4121)
 unfolding answer
 target_fits = refl
 
 -- at one token the lower number first: a 4,097th instruction that is an undeclared name is 5
-last-undeclared : answer (pair (does (also almost (one (gets q (bytes "x")))) ∷ [])) ≡ (5, 4121)
+last_undeclared : answer (pair (does (also almost (one (gets q (bytes "x")))) ∷ [])) ≡ (5, 4121)
 unfolding answer
-last-undeclared = refl
+last_undeclared = refl
 
 -- THE CIRCUIT OF CASE A
 
-abbrev caseA : Design
-caseA =
+abbrev case_a : Design
+case_a =
     design (bytes "pair") false none (bytes "a") (bytes "pair") (declaration q (d ∷ []) none ∷ [])
     (process none (listed q []) false (one (assignment q (just (negated (named q))) (after 3 Ns))) none
     ∷ process none (listed q []) false (one (assignment d (just (negated (named q))) immediate)) none ∷ [])
     false none
 
-accepted-A : answer caseA ≡ (0, 0)
+accepted_a : answer case_a ≡ (0, 0)
 unfolding answer
-accepted-A = refl
+accepted_a = refl
 
-circuit-A : circuitOf caseA
+circuit_a : circuit_of case_a
     ≡ record {
       initial = false ∷ false ∷ [];
       processes =
@@ -258,10 +258,10 @@ circuit-A : circuitOf caseA
           ∷ record { wakes = 0 ∷ []; body = Actions.assign 1 (Formula.negated (Formula.signal 0)) 0 Actions.done } ∷ [];
     }
 unfolding same_list
-circuit-A = refl
+circuit_a = refl
 
-names-A : signalNames caseA ≡ bytes "q" ∷ bytes "d" ∷ []
-names-A = refl
+names_a : signal_names case_a ≡ bytes "q" ∷ bytes "d" ∷ []
+names_a = refl
 
-entity-A : entityName caseA ≡ bytes "pair"
-entity-A = refl
+entity_a : entity_name case_a ≡ bytes "pair"
+entity_a = refl

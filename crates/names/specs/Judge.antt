@@ -4,16 +4,16 @@ use Rattle.std.specs.Prelude.{ℕ, zero, suc, ◌+◌, ◌*◌, ◌<◌, ◌≡�
 use Rattle.std.proofs.Math.Option.{Option, none, some}
 use Rattle.laws.specs.Pick.{pick, same_list}
 use Rattle.words.specs.Token.{Name}
-use Rattle.words.specs.Unit.{femtosecondsOf, longest}
+use Rattle.words.specs.Unit.{femtoseconds_of, longest}
 use Rattle.syntax.specs.Tree.{Design}
-use Rattle.rules.specs.Sizes.{mostSignals, mostProcesses, mostInstructions}
-use Rattle.names.specs.Roles.{Role, declares, labels, listens, reads, assigns, belongs, closes, opens, delays, counts, passes, designRoles}
+use Rattle.rules.specs.Sizes.{most_signals, most_processes, most_instructions}
+use Rattle.names.specs.Roles.{Role, declares, labels, listens, reads, assigns, belongs, closes, opens, delays, counts, passes, design_roles}
 
 -- TESTS
 
-abbrev pub isAmong : Name → List Name → Bool
-isAmong n [] = false
-isAmong n (m ∷ ms) = same_list m n || isAmong n ms
+abbrev pub is_among : Name → List Name → Bool
+is_among n [] = false
+is_among n (m ∷ ms) = same_list m n || is_among n ms
 
 -- the number of a name in a list of names, counted from 0; the length of the list where it is not there
 abbrev pub number_of : Name → List Name → ℕ
@@ -33,8 +33,8 @@ differs (some m) n = not (same_list m n)
 
 pub record State : Type 0 where
   -- the signals, in declared order, and the labels
-  pub signalNames : List Name
-  pub labelNames : List Name
+  pub signal_names : List Name
+  pub label_names : List Name
   -- how many processes have been opened
   pub processes : ℕ
   -- the numbers of the signals that the processes before this one assign, and of those that this one does
@@ -43,14 +43,14 @@ pub record State : Type 0 where
   pub instructions : ℕ
 
 -- before the first token
-abbrev pub nothingYet : State
-nothingYet = record { signalNames = []; labelNames = []; processes = 0; earlier = []; current = []; instructions = 0 }
+abbrev pub nothing_yet : State
+nothing_yet = record { signal_names = []; label_names = []; processes = 0; earlier = []; current = []; instructions = 0 }
 
 abbrev pub declared : Name → State → State
 declared n y =
     record {
-      signalNames = y.signalNames ++ (n ∷ []);
-      labelNames = y.labelNames;
+      signal_names = y.signal_names ++ (n ∷ []);
+      label_names = y.label_names;
       processes = y.processes;
       earlier = y.earlier;
       current = y.current;
@@ -60,8 +60,8 @@ declared n y =
 abbrev pub labelled : Name → State → State
 labelled n y =
     record {
-      signalNames = y.signalNames;
-      labelNames = n ∷ y.labelNames;
+      signal_names = y.signal_names;
+      label_names = n ∷ y.label_names;
       processes = y.processes;
       earlier = y.earlier;
       current = y.current;
@@ -71,8 +71,8 @@ labelled n y =
 abbrev pub opened : State → State
 opened y =
     record {
-      signalNames = y.signalNames;
-      labelNames = y.labelNames;
+      signal_names = y.signal_names;
+      label_names = y.label_names;
       processes = y.processes + 1;
       earlier = y.current ++ y.earlier;
       current = [];
@@ -82,8 +82,8 @@ opened y =
 abbrev pub assigned : ℕ → State → State
 assigned k y =
     record {
-      signalNames = y.signalNames;
-      labelNames = y.labelNames;
+      signal_names = y.signal_names;
+      label_names = y.label_names;
       processes = y.processes;
       earlier = y.earlier;
       current = k ∷ y.current;
@@ -93,8 +93,8 @@ assigned k y =
 abbrev pub counted : ℕ → State → State
 counted k y =
     record {
-      signalNames = y.signalNames;
-      labelNames = y.labelNames;
+      signal_names = y.signal_names;
+      label_names = y.label_names;
       processes = y.processes;
       earlier = y.earlier;
       current = y.current;
@@ -107,7 +107,7 @@ next y (declares n) = declared n y
 next y (labels n) = labelled n y
 next y (listens n) = y
 next y (reads n) = counted 1 y
-next y (assigns n) = counted 1 (assigned (number_of n y.signalNames) y)
+next y (assigns n) = counted 1 (assigned (number_of n y.signal_names) y)
 next y (belongs e n) = y
 next y (closes o n) = y
 next y opens = opened y
@@ -118,24 +118,24 @@ next y passes = y
 -- THE TABLE: each number that a role may be refused with, and when, in rising order
 
 abbrev pub undeclared : Name → State → Bool
-undeclared n y = not (isAmong n y.signalNames)
+undeclared n y = not (is_among n y.signal_names)
 
 abbrev pub used : Name → State → Bool
-used n y = isAmong n y.signalNames || isAmong n y.labelNames
+used n y = is_among n y.signal_names || is_among n y.label_names
 
 abbrev pub overfull : ℕ → State → Bool
-overfull k y = ltb mostInstructions (y.instructions + k)
+overfull k y = ltb most_instructions (y.instructions + k)
 
 abbrev pub faults : State → Role → List (ℕ × Bool)
-faults y (declares n) = (6, used n y) ∷ (10, ltb mostSignals (length y.signalNames + 1)) ∷ []
+faults y (declares n) = (6, used n y) ∷ (10, ltb most_signals (length y.signal_names + 1)) ∷ []
 faults y (labels n) = (6, used n y) ∷ []
 faults y (listens n) = (5, undeclared n y) ∷ []
 faults y (reads n) = (5, undeclared n y) ∷ (10, overfull 1 y) ∷ []
-faults y (assigns n) = (5, undeclared n y) ∷ (9, has (number_of n y.signalNames) y.earlier) ∷ (10, overfull 1 y) ∷ []
+faults y (assigns n) = (5, undeclared n y) ∷ (9, has (number_of n y.signal_names) y.earlier) ∷ (10, overfull 1 y) ∷ []
 faults y (belongs e n) = (5, not (same_list e n)) ∷ []
 faults y (closes o n) = (7, differs o n) ∷ []
-faults y opens = (10, ltb mostProcesses (y.processes + 1)) ∷ []
-faults y (delays n u) = (8, ltb longest (n * femtosecondsOf u)) ∷ []
+faults y opens = (10, ltb most_processes (y.processes + 1)) ∷ []
+faults y (delays n u) = (8, ltb longest (n * femtoseconds_of u)) ∷ []
 faults y (counts k) = (10, overfull k y) ∷ []
 faults y passes = []
 
@@ -164,8 +164,8 @@ judged y (r ∷ rs) [] = fine y
 judged y (r ∷ rs) (p ∷ ps) = onward (judge y r p) (λ z. judged z rs ps)
 
 -- a design whose tokens start at the places ps
-abbrev pub judgedDesign : Design → List ℕ → Judgement
-judgedDesign d ps = judged nothingYet (designRoles d) ps
+abbrev pub judged_design : Design → List ℕ → Judgement
+judged_design d ps = judged nothing_yet (design_roles d) ps
 
 -- THE SENTENCES: what the fold is said to decide
 
@@ -180,13 +180,13 @@ AppliesFrom y (r ∷ rs) zero n = Holds n (faults y r)
 AppliesFrom y (r ∷ rs) (suc k) n = AppliesFrom (next y r) rs k n
 
 abbrev pub Applies : Design → ℕ → ℕ → Type 0
-Applies d k n = AppliesFrom nothingYet (designRoles d) k n
+Applies d k n = AppliesFrom nothing_yet (design_roles d) k n
 
 -- at token k and no earlier one something applies, and the lowest that applies there is n
 pub record First (Applying : ℕ → ℕ → Type 0) (k n : ℕ) : Type 0 where
   pub applies : Applying k n
-  pub lowerNot : (m : ℕ) → m < n → ¬ Applying k m
-  pub earlierNot : (j m : ℕ) → j < k → ¬ Applying j m
+  pub lower_not : (m : ℕ) → m < n → ¬ Applying k m
+  pub earlier_not : (j m : ℕ) → j < k → ¬ Applying j m
 
 -- none of refusals 5 to 10 applies anywhere
 abbrev pub Faultless : Design → Type 0

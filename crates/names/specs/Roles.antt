@@ -31,96 +31,96 @@ pub data Role : Type 0 where
 -- the roles of a tree's tokens, in front of the roles r
 
 abbrev mutual
-  pub expressionRoles : Expression → List Role → List Role
-  expressionRoles (expression f t) r = factorRoles f (tailRoles t r)
+  pub expression_roles : Expression → List Role → List Role
+  expression_roles (expression f t) r = factor_roles f (tail_roles t r)
 
-  pub tailRoles : Tail → List Role → List Role
-  tailRoles alone r = r
-  tailRoles (joined o f) r = counts 1 ∷ factorRoles f r
-  tailRoles (chained c f m) r = counts 1 ∷ factorRoles f (moreRoles m r)
+  pub tail_roles : Tail → List Role → List Role
+  tail_roles alone r = r
+  tail_roles (joined o f) r = counts 1 ∷ factor_roles f r
+  tail_roles (chained c f m) r = counts 1 ∷ factor_roles f (more_roles m r)
 
-  pub moreRoles : More → List Role → List Role
-  moreRoles enough r = r
-  moreRoles (more f m) r = counts 1 ∷ factorRoles f (moreRoles m r)
+  pub more_roles : More → List Role → List Role
+  more_roles enough r = r
+  more_roles (more f m) r = counts 1 ∷ factor_roles f (more_roles m r)
 
-  pub factorRoles : Factor → List Role → List Role
-  factorRoles (plain p) r = primaryRoles p r
-  factorRoles (negated p) r = counts 1 ∷ primaryRoles p r
+  pub factor_roles : Factor → List Role → List Role
+  factor_roles (plain p) r = primary_roles p r
+  factor_roles (negated p) r = counts 1 ∷ primary_roles p r
 
-  pub primaryRoles : Primary → List Role → List Role
-  primaryRoles (named n) r = reads n ∷ r
-  primaryRoles (constant b) r = counts 1 ∷ r
-  primaryRoles (bracketed e) r = passes ∷ expressionRoles e (passes ∷ r)
+  pub primary_roles : Primary → List Role → List Role
+  primary_roles (named n) r = reads n ∷ r
+  primary_roles (constant b) r = counts 1 ∷ r
+  primary_roles (bracketed e) r = passes ∷ expression_roles e (passes ∷ r)
 
-abbrev pub delayRoles : Delay → List Role → List Role
-delayRoles immediate r = r
-delayRoles (after n u) r = passes ∷ delays n u ∷ passes ∷ r
+abbrev pub delay_roles : Delay → List Role → List Role
+delay_roles immediate r = r
+delay_roles (after n u) r = passes ∷ delays n u ∷ passes ∷ r
 
 abbrev mutual
-  pub statementsRoles : Statements → List Role → List Role
-  statementsRoles done r = r
-  statementsRoles (also s ss) r = statementRoles s (statementsRoles ss r)
+  pub statements_roles : Statements → List Role → List Role
+  statements_roles done r = r
+  statements_roles (also s ss) r = statement_roles s (statements_roles ss r)
 
-  pub statementRoles : Statement → List Role → List Role
-  statementRoles (assignment n e d) r = assigns n ∷ passes ∷ passes ∷ expressionRoles e (delayRoles d (passes ∷ r))
-  statementRoles (conditional e ss o) r =
-      counts 2 ∷ expressionRoles e (passes ∷ statementsRoles ss (otherwiseRoles o (passes ∷ passes ∷ passes ∷ r)))
-  statementRoles null r = passes ∷ passes ∷ r
+  pub statement_roles : Statement → List Role → List Role
+  statement_roles (assignment n e d) r = assigns n ∷ passes ∷ passes ∷ expression_roles e (delay_roles d (passes ∷ r))
+  statement_roles (conditional e ss o) r =
+      counts 2 ∷ expression_roles e (passes ∷ statements_roles ss (otherwise_roles o (passes ∷ passes ∷ passes ∷ r)))
+  statement_roles null r = passes ∷ passes ∷ r
 
-  pub otherwiseRoles : Otherwise → List Role → List Role
-  otherwiseRoles missing r = r
-  otherwiseRoles (otherwise ss) r = passes ∷ statementsRoles ss r
+  pub otherwise_roles : Otherwise → List Role → List Role
+  otherwise_roles missing r = r
+  otherwise_roles (otherwise ss) r = passes ∷ statements_roles ss r
 
 -- what may be missing
-abbrev pub wordRoles : Bool → List Role → List Role
-wordRoles true r = passes ∷ r
-wordRoles false r = r
+abbrev pub word_roles : Bool → List Role → List Role
+word_roles true r = passes ∷ r
+word_roles false r = r
 
-abbrev pub closingRoles : (opened closing : Option Name) → List Role → List Role
-closingRoles o none r = r
-closingRoles o (some n) r = closes o n ∷ r
+abbrev pub closing_roles : (opened closing : Option Name) → List Role → List Role
+closing_roles o none r = r
+closing_roles o (some n) r = closes o n ∷ r
 
-abbrev pub initialRoles : Option Bool → List Role → List Role
-initialRoles none r = r
-initialRoles (some b) r = passes ∷ passes ∷ r
+abbrev pub initial_roles : Option Bool → List Role → List Role
+initial_roles none r = r
+initial_roles (some b) r = passes ∷ passes ∷ r
 
-abbrev pub labelRoles : Option Name → List Role → List Role
-labelRoles none r = r
-labelRoles (some n) r = labels n ∷ passes ∷ r
+abbrev pub label_roles : Option Name → List Role → List Role
+label_roles none r = r
+label_roles (some n) r = labels n ∷ passes ∷ r
 
 -- {`,` name}, where a name is for f
-abbrev pub commaRoles : (Name → Role) → List Name → List Role → List Role
-commaRoles f [] r = r
-commaRoles f (n ∷ ns) r = passes ∷ f n ∷ commaRoles f ns r
+abbrev pub comma_roles : (Name → Role) → List Name → List Role → List Role
+comma_roles f [] r = r
+comma_roles f (n ∷ ns) r = passes ∷ f n ∷ comma_roles f ns r
 
-abbrev pub declarationRoles : Declaration → List Role → List Role
-declarationRoles (declaration n ns i) r =
-    passes ∷ declares n ∷ commaRoles declares ns (passes ∷ passes ∷ initialRoles i (passes ∷ r))
+abbrev pub declaration_roles : Declaration → List Role → List Role
+declaration_roles (declaration n ns i) r =
+    passes ∷ declares n ∷ comma_roles declares ns (passes ∷ passes ∷ initial_roles i (passes ∷ r))
 
-abbrev pub sensitivityRoles : Sensitivity → List Role → List Role
-sensitivityRoles unlisted r = r
-sensitivityRoles (listed n ns) r = passes ∷ listens n ∷ commaRoles listens ns (passes ∷ r)
+abbrev pub sensitivity_roles : Sensitivity → List Role → List Role
+sensitivity_roles unlisted r = r
+sensitivity_roles (listed n ns) r = passes ∷ listens n ∷ comma_roles listens ns (passes ∷ r)
 
-abbrev pub processRoles : Process → List Role → List Role
-processRoles (process l s i b c) r =
-    labelRoles l (opens ∷ sensitivityRoles s (wordRoles i (passes
-    ∷ statementsRoles b (passes ∷ passes ∷ closingRoles l c (passes ∷ r)))))
+abbrev pub process_roles : Process → List Role → List Role
+process_roles (process l s i b c) r =
+    label_roles l (opens ∷ sensitivity_roles s (word_roles i (passes
+    ∷ statements_roles b (passes ∷ passes ∷ closing_roles l c (passes ∷ r)))))
 
-abbrev pub declarationsRoles : List Declaration → List Role → List Role
-declarationsRoles [] r = r
-declarationsRoles (d ∷ ds) r = declarationRoles d (declarationsRoles ds r)
+abbrev pub declarations_roles : List Declaration → List Role → List Role
+declarations_roles [] r = r
+declarations_roles (d ∷ ds) r = declaration_roles d (declarations_roles ds r)
 
-abbrev pub processesRoles : List Process → List Role → List Role
-processesRoles [] r = r
-processesRoles (p ∷ ps) r = processRoles p (processesRoles ps r)
+abbrev pub processes_roles : List Process → List Role → List Role
+processes_roles [] r = r
+processes_roles (p ∷ ps) r = process_roles p (processes_roles ps r)
 
-abbrev pub designRoles : Design → List Role
-designRoles (design e w c a o ds ps w' c') =
-    passes ∷ passes ∷ passes ∷ passes ∷ wordRoles w (closingRoles (some e) c (passes
-    ∷ passes ∷ passes ∷ passes ∷ belongs e o ∷ passes ∷ declarationsRoles ds (passes ∷ processesRoles ps (passes
-    ∷ wordRoles w' (closingRoles (some a) c' (passes ∷ []))))))
+abbrev pub design_roles : Design → List Role
+design_roles (design e w c a o ds ps w' c') =
+    passes ∷ passes ∷ passes ∷ passes ∷ word_roles w (closing_roles (some e) c (passes
+    ∷ passes ∷ passes ∷ passes ∷ belongs e o ∷ passes ∷ declarations_roles ds (passes ∷ processes_roles ps (passes
+    ∷ word_roles w' (closing_roles (some a) c' (passes ∷ []))))))
 
 -- q <= transport not q after 3 ns;
-roles-example : statementRoles (assignment (bytes "q") (expression (negated (named (bytes "q"))) alone) (after 3 Ns)) []
+roles-example : statement_roles (assignment (bytes "q") (expression (negated (named (bytes "q"))) alone) (after 3 Ns)) []
     ≡ assigns (bytes "q") ∷ passes ∷ passes ∷ counts 1 ∷ reads (bytes "q") ∷ passes ∷ delays 3 Ns ∷ passes ∷ passes ∷ []
 roles-example = refl

@@ -2,7 +2,7 @@
 ghost use Rattle.std.specs.Prelude.{◌≡◌, ◌≤◌, length};
 ghost use Rattle.layout.specs.TableWords.{FitTableWords};
 ghost use Rattle.cells.specs.Cells.{FitFor};
-ghost use Rattle.machine.specs.Inside.Steps.{signalsOf};
+ghost use Rattle.machine.specs.Inside.Steps.{signals_of};
 ghost use Rattle.machine.specs.Inside.Units.{Planned};
 ghost use Rattle.machine.specs.Inside.Relays.{Relayed};
 ghost use Rattle.player.specs.Inside.Turns.{Went};
@@ -37,13 +37,13 @@ fn take_turn(
     count: usize,
 ) -> Turn
     requires fit_table_words { FitTableWords table.now }
-    requires fit_for { FitFor (signalsOf table.now) cells.old }
+    requires fit_for { FitFor (signals_of table.now) cells.old }
     requires stop_bound { stop ≤ 1000000000000000000 }
     requires out_len { length out.old ≡ 36864 }
     requires count_bound { count ≤ 32768 }
     requires planned { Planned table.now plan.now }
     requires relayed { Relayed table.now relays.now }
-    ensures went { Went (signalsOf table.now) result cells.new }
+    ensures went { Went (signals_of table.now) result cells.new }
     ensures out_len_2 { length out.new ≡ 36864 }
 {
     match forward(cells, table, plan, relays, stop, &mut out[count..]) {
@@ -79,7 +79,7 @@ fn go_on(
     first: usize,
 )
     requires fit_table_words { FitTableWords table.now }
-    requires fit_for { FitFor (signalsOf table.now) cells.old }
+    requires fit_for { FitFor (signals_of table.now) cells.old }
     requires stop_bound { stop ≤ 1000000000000000000 }
     requires out_len { length out.old ≡ 36864 }
     requires first_bound { first ≤ 36864 }

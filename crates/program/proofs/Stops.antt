@@ -4,32 +4,32 @@ use mathlib.Core.Path.{◌≡◌, sym, subst}
 use mathlib.Core.List.{List}
 use lib.Dec.{eqb, leb}
 use lib.ListN.{length}
-use Rattle.laws.proofs.Picks.{pick-both}
+use Rattle.laws.proofs.Picks.{pick_both}
 use borrow.Author.Tests.{leb-true}
 use Rattle.words.specs.Integer.{value_of}
-use Rattle.words.specs.Unit.{longest, femtosecondsOf}
+use Rattle.words.specs.Unit.{longest, femtoseconds_of}
 use Rattle.words.specs.declared.unit.Delay.{Delay}
 use Rattle.words.specs.declared.unit.Delay.TheVariants.{Femtoseconds, TooLong}
-use Rattle.lexis.specs.Run.{allDigits}
+use Rattle.lexis.specs.Run.{all_digits}
 use Rattle.stop.specs.declared.Unit.{Unit as Scale}
 use Rattle.stop.specs.declared.Unit.TheVariants.{Is, None}
 use Rattle.stop.specs.declared.Stop.{Stop}
 use Rattle.stop.specs.declared.Stop.TheVariants.{Refused}
-use Rattle.stop.specs.Stop.{unit_of, stopAfter, stopIn, stopOf}
+use Rattle.stop.specs.Stop.{unit_of, stop_after, stop_in, stop_of}
 use Rattle.program.specs.Given.{InTime}
 
-in-unit : (u : Scale) (digits : List ℕ) → InTime (stopIn u digits)
-in-unit (Is u) digits =
-    let amount = value_of digits * femtosecondsOf u in
-    pick-both (λ (d : Delay). InTime (stopAfter d)) (leb amount longest) (Femtoseconds amount) TooLong (λ e. leb-true amount longest e) (λ e. tt)
-in-unit None digits = tt
+in_unit : (u : Scale) (digits : List ℕ) → InTime (stop_in u digits)
+in_unit (Is u) digits =
+    let amount = value_of digits * femtoseconds_of u in
+    pick_both (λ (d : Delay). InTime (stop_after d)) (leb amount longest) (Femtoseconds amount) TooLong (λ e. leb-true amount longest e) (λ e. tt)
+in_unit None digits = tt
 
-pub in-time : (amount scale : List ℕ) → InTime (stopOf amount scale)
-unfolding stopOf
-in-time amount scale =
-    pick-both InTime (eqb (length amount) 0) Refused _ (λ e. tt)
-    (λ e. pick-both InTime (allDigits amount) (stopIn (unit_of scale) amount) Refused (λ f. in-unit (unit_of scale) amount) (λ f. tt))
+pub in_time : (amount scale : List ℕ) → InTime (stop_of amount scale)
+unfolding stop_of
+in_time amount scale =
+    pick_both InTime (eqb (length amount) 0) Refused _ (λ e. tt)
+    (λ e. pick_both InTime (all_digits amount) (stop_in (unit_of scale) amount) Refused (λ f. in_unit (unit_of scale) amount) (λ f. tt))
 
 -- as the code has it
-pub said-in-time : (amount scale : List ℕ) (r : Stop) → r ≡ stopOf amount scale → InTime r
-said-in-time amount scale r e = subst InTime (sym e) (in-time amount scale)
+pub said_in_time : (amount scale : List ℕ) (r : Stop) → r ≡ stop_of amount scale → InTime r
+said_in_time amount scale r e = subst InTime (sym e) (in_time amount scale)

@@ -9,23 +9,23 @@ use lib.ListN.{length}
 use borrow.Author.Tests.{ne_eqb, lt-ltb}
 use Rattle.words.specs.Token.{Name, ENTITY, ARCHITECTURE, OF, IS, END}
 use Rattle.syntax.specs.Tree.{design}
-use Rattle.syntax.proofs.Rows.{entityPart, architecturePart, aDesign, aName, theWord, signals, processes, closing}
+use Rattle.syntax.proofs.Rows.{entity_part, architecture_part, a_design, a_name, the_word, signals, processes, closing}
 use Rattle.look.specs.declared.Look.{Look}
 use Rattle.look.specs.Inside.Looks.{name_at, look_of}
 use Rattle.look.proofs.Looks.{View, there, gone, seen, seen-there, seen-gone}
-use Rattle.emission.specs.Inside.Draft.{declarationsDraft, processesDraft}
-use Rattle.ledger.specs.Inside.Standing.{Sound, Span, nameOption}
+use Rattle.emission.specs.Inside.Draft.{declarations_draft, processes_draft}
+use Rattle.ledger.specs.Inside.Standing.{Sound, Span, name_option}
 use Rattle.reading.specs.declared.Spot.{Spot}
 use Rattle.reading.specs.Inside.Spots.{machine, verdict, Judged, unfit, word_of}
-use Rattle.reading.specs.Inside.Reading.{whole, theName, Named, belongsRoles, signalsRoles, processesEndRoles, closingPartRoles, silent, Ready, Reads}
-use Rattle.reader.specs.Inside.Designs.{Finished, behindEntity, Architecture, architectureRoles, architectureDraft, Behind, beginning, Designed}
+use Rattle.reading.specs.Inside.Reading.{whole, the_name, Named, belongs_roles, signals_roles, processes_end_roles, closing_part_roles, silent, Ready, Reads}
+use Rattle.reader.specs.Inside.Designs.{Finished, behind_entity, Architecture, architecture_roles, architecture_draft, Behind, beginning, Designed}
 use Rattle.reading.proofs.Moves.{on}
-use Rattle.reading.proofs.Judging.{then-judged}
+use Rattle.reading.proofs.Judging.{then_judged}
 use Rattle.reading.proofs.Words.{worded, only-word}
 
 -- every look stands for a part of the text
-pub look-span : {s : List ℕ} {at : ℕ} {t : Look} → at ≤ length s → t ≡ look_of s at → Span s t.start t.end
-look-span {s} {at} {t} h e = go (seen h e)
+pub look_span : {s : List ℕ} {at : ℕ} {t : Look} → at ≤ length s → t ≡ look_of s at → Span s t.start t.end
+look_span {s} {at} {t} h e = go (seen h e)
   where
     go : View s at t → Span s t.start t.end
     go (there x) = record { rising = omega (arith, x.some); inside = x.inside }
@@ -33,16 +33,16 @@ look-span {s} {at} {t} h e = go (seen h e)
 
 -- THE END OF THE TEXT
 
-pub finished-off : {s : List ℕ} {p : Spot} → (p.number ≡ 0 → ⊥) → Finished s p p
-finished-off f = record { fine = λ z. z; moves = λ k. refl; judges = λ z. refl; ends = λ z. absurd (f z) }
+pub finished_off : {s : List ℕ} {p : Spot} → (p.number ≡ 0 → ⊥) → Finished s p p
+finished_off f = record { fine = λ z. z; moves = λ k. refl; judges = λ z. refl; ends = λ z. absurd (f z) }
 
 module _ {s : List ℕ} {p : Spot} {t : Look} (h : p.at ≤ length s) (f : p.number ≡ 0) (e : t ≡ look_of s p.at) where
-  pub finished-end : t.kind ≡ 117 → Finished s p p
-  finished-end k = record { fine = λ z. z; moves = λ k. refl; judges = λ z. refl; ends = λ z. (seen-gone h e k).tokens }
+  pub finished_end : t.kind ≡ 117 → Finished s p p
+  finished_end k = record { fine = λ z. z; moves = λ k. refl; judges = λ z. refl; ends = λ z. (seen-gone h e k).tokens }
 
-  pub finished-more : {n : ℕ} → (t.kind ≡ 117 → ⊥) → Finished s p (unfit t n)
+  pub finished_more : {n : ℕ} → (t.kind ≡ 117 → ⊥) → Finished s p (unfit t n)
   unfolding machine verdict
-  finished-more k =
+  finished_more k =
       let x = seen-there h e k in
       record {
         fine = λ _. f;
@@ -54,31 +54,31 @@ module _ {s : List ℕ} {p : Spot} {t : Look} (h : p.at ≤ length s) (f : p.num
 -- FROM THE WORD `architecture` ON
 
 -- the name that a part is closed by
-own_name : (s : List ℕ) (at : ℕ) {t : Look} → t ≡ look_of s at → (look_of s at).start < (look_of s at).end → nameOption s t.start t.end ≡ some (theName s at)
-own_name s at e h = rw (e, lt-ltb (look_of s at).start (look_of s at).end h)
+own_name_lem : (s : List ℕ) (at : ℕ) {t : Look} → t ≡ look_of s at → (look_of s at).start < (look_of s at).end → name_option s t.start t.end ≡ some (the_name s at)
+own_name_lem s at e h = rw (e, lt-ltb (look_of s at).start (look_of s at).end h)
 
-pub architecture-read : {s : List ℕ} {n : Name} {own : Look} {p a b c d e f g h q : Spot} {l l1 l2 l3 l4 v v1 v2 : List ℕ}
-    → p.at ≤ length s → a ≡ word_of s p 3 → own ≡ look_of s a.at → Named s a b l v → c ≡ word_of s b 4 → Reads (whole aName (belongsRoles n) silent) s 32 c d l l1 v v
-    → e ≡ word_of s d 1 → Reads (whole signals signalsRoles declarationsDraft) s 32 e f l1 l2 v v1 → Reads (whole processes processesEndRoles processesDraft) s 32 f g l2 l3 v1 v2
-    → Reads (whole (closing architecturePart) (closingPartRoles (nameOption s own.start own.end)) silent) s 32 g h l3 l4 v2 v2 → Finished s h q
+pub architecture_read : {s : List ℕ} {n : Name} {own : Look} {p a b c d e f g h q : Spot} {l l1 l2 l3 l4 v v1 v2 : List ℕ}
+    → p.at ≤ length s → a ≡ word_of s p 3 → own ≡ look_of s a.at → Named s a b l v → c ≡ word_of s b 4 → Reads (whole a_name (belongs_roles n) silent) s 32 c d l l1 v v
+    → e ≡ word_of s d 1 → Reads (whole signals signals_roles declarations_draft) s 32 e f l1 l2 v v1 → Reads (whole processes processes_end_roles processes_draft) s 32 f g l2 l3 v1 v2
+    → Reads (whole (closing architecture_part) (closing_part_roles (name_option s own.start own.end)) silent) s 32 g h l3 l4 v2 v2 → Finished s h q
     → Behind s n p q l l4 v v2
-architecture-read {s} {n} {own} {p} {a} {b} {c} {d} {e} {f} {g} {h} {q} {l} {l1} {l2} {l3} {l4} {v} {v1} {v2} i e1 eo nm e2 r1 e3 r2 r3 r4 fin =
+architecture_read {s} {n} {own} {p} {a} {b} {c} {d} {e} {f} {g} {h} {q} {l} {l1} {l2} {l3} {l4} {v} {v1} {v2} i e1 eo nm e2 r1 e3 r2 r3 r4 fin =
     let w1 = worded ARCHITECTURE i e1 in
     let r0 = nm.reads in
     let w2 = worded OF r0.inside e2 in
     let w3 = worded IS r1.inside e3 in
-    let built : Architecture = record { name = theName s a.at; of = r1.tree; declared = r2.tree; processes = r3.tree; word = r4.tree.0; closed = r4.tree.1 } in
+    let built : Architecture = record { name = the_name s a.at; of = r1.tree; declared = r2.tree; processes = r3.tree; word = r4.tree.0; closed = r4.tree.1 } in
     let back : q.number ≡ 0 → b.number ≡ 0 = λ z. w2.fine (r1.fine (w3.fine (r2.fine (r3.fine (r4.fine (fin.fine z)))))) in
     record {
       tree = built;
       fine = λ z. w1.fine (r0.fine (back z));
-      moves = λ k. w1.moves (theWord ARCHITECTURE) record { push = []; build = λ _. tt } refl (only-word s p ARCHITECTURE) (aName ∷ theWord OF ∷ aName ∷ theWord IS ∷ signals ∷ processes ∷ closing architecturePart ∷ []) k (omega arith)
-          ∙ r0.moves tt (theWord OF ∷ aName ∷ theWord IS ∷ signals ∷ processes ∷ closing architecturePart ∷ []) _ refl
-          ∙ w2.moves (theWord OF) record { push = []; build = λ _. tt } refl (only-word s b OF) (aName ∷ theWord IS ∷ signals ∷ processes ∷ closing architecturePart ∷ []) _ (omega arith)
-          ∙ r1.moves tt (theWord IS ∷ signals ∷ processes ∷ closing architecturePart ∷ []) _ refl
-          ∙ w3.moves (theWord IS) record { push = []; build = λ _. tt } refl (only-word s d IS) (signals ∷ processes ∷ closing architecturePart ∷ []) _ (omega arith)
-          ∙ r2.moves tt (processes ∷ closing architecturePart ∷ []) _ refl
-          ∙ r3.moves tt (closing architecturePart ∷ []) _ refl
+      moves = λ k. w1.moves (the_word ARCHITECTURE) record { push = []; build = λ _. tt } refl (only-word s p ARCHITECTURE) (a_name ∷ the_word OF ∷ a_name ∷ the_word IS ∷ signals ∷ processes ∷ closing architecture_part ∷ []) k (omega arith)
+          ∙ r0.moves tt (the_word OF ∷ a_name ∷ the_word IS ∷ signals ∷ processes ∷ closing architecture_part ∷ []) _ refl
+          ∙ w2.moves (the_word OF) record { push = []; build = λ _. tt } refl (only-word s b OF) (a_name ∷ the_word IS ∷ signals ∷ processes ∷ closing architecture_part ∷ []) _ (omega arith)
+          ∙ r1.moves tt (the_word IS ∷ signals ∷ processes ∷ closing architecture_part ∷ []) _ refl
+          ∙ w3.moves (the_word IS) record { push = []; build = λ _. tt } refl (only-word s d IS) (signals ∷ processes ∷ closing architecture_part ∷ []) _ (omega arith)
+          ∙ r2.moves tt (processes ∷ closing architecture_part ∷ []) _ refl
+          ∙ r3.moves tt (closing architecture_part ∷ []) _ refl
           ∙ r4.moves tt [] _ refl
           ∙ fin.moves _;
       judges = λ z.
@@ -89,11 +89,11 @@ architecture-read {s} {n} {own} {p} {a} {b} {c} {d} {e} {f} {g} {h} {q} {l} {l1}
           let fd = w3.fine fe in
           let fc = r1.fine fd in
           let fb = w2.fine fc in
-          let closed : Judged 0 0 s g h l3 l4 v2 v2 (closingPartRoles (some (theName s a.at)) r4.tree) (λ m. m)
-          = subst (λ (o : Option Name). Judged 0 0 s g h l3 l4 v2 v2 (closingPartRoles o r4.tree) (λ m. m)) (own_name s a.at eo (nm.some fb)) (r4.judges fh) in
-          let all = then-judged (w1.judges (r0.fine fb)) (then-judged (r0.judges fb) (then-judged (w2.judges fc) (then-judged (r1.judges fd) (then-judged (w3.judges fe)
-          (then-judged (r2.judges ff) (then-judged (r3.judges fg) closed)))))) in
-          subst (λ (x : Spot). Judged 0 0 s p x l l4 v v2 (architectureRoles n built) (architectureDraft built)) (fin.judges z) all;
+          let closed : Judged 0 0 s g h l3 l4 v2 v2 (closing_part_roles (some (the_name s a.at)) r4.tree) (λ m. m)
+          = subst (λ (o : Option Name). Judged 0 0 s g h l3 l4 v2 v2 (closing_part_roles o r4.tree) (λ m. m)) (own_name_lem s a.at eo (nm.some fb)) (r4.judges fh) in
+          let all = then_judged (w1.judges (r0.fine fb)) (then_judged (r0.judges fb) (then_judged (w2.judges fc) (then_judged (r1.judges fd) (then_judged (w3.judges fe)
+          (then_judged (r2.judges ff) (then_judged (r3.judges fg) closed)))))) in
+          subst (λ (x : Spot). Judged 0 0 s p x l l4 v v2 (architecture_roles n built) (architecture_draft built)) (fin.judges z) all;
       ends = fin.ends;
     }
 
@@ -104,38 +104,38 @@ begins d = record { inside = omega arith; sound = λ _. d }
 
 pub design-read : {s : List ℕ} {own : Look} {a b c d e q : Spot} {l l1 l2 v v' : List ℕ}
     → a ≡ word_of s beginning 0 → own ≡ look_of s a.at → Named s a b l v → c ≡ word_of s b 1 → d ≡ word_of s c 2
-    → Reads (whole (closing entityPart) (closingPartRoles (nameOption s own.start own.end)) silent) s 32 d e l l1 v v
+    → Reads (whole (closing entity_part) (closing_part_roles (name_option s own.start own.end)) silent) s 32 d e l l1 v v
     → Behind s (name_at s own.start own.end) e q l1 l2 v v' → Designed s q l l2 v v'
 design-read {s} {own} {a} {b} {c} {d} {e} {q} {l} {l1} {l2} {v} {v'} e1 eo nm e2 e3 r1 o0 =
     let w1 = worded ENTITY {p = beginning} (omega arith) e1 in
     let r0 = nm.reads in
     let w2 = worded IS r0.inside e2 in
     let w3 = worded END w2.inside e3 in
-    let o : Behind s (theName s a.at) e q l1 l2 v v' = subst (λ (t : Look). Behind s (name_at s t.start t.end) e q l1 l2 v v') eo o0 in
+    let o : Behind s (the_name s a.at) e q l1 l2 v v' = subst (λ (t : Look). Behind s (name_at s t.start t.end) e q l1 l2 v v') eo o0 in
     record {
-      entity = theName s a.at;
+      entity = the_name s a.at;
       word = r1.tree.0;
       closed = r1.tree.1;
       behind = o.tree;
-      named = ap (λ (x : Spot). theName s x.at) e1;
-      moves = w1.moves aDesign
+      named = ap (λ (x : Spot). the_name s x.at) e1;
+      moves = w1.moves a_design
           record {
-            push = aName ∷ theWord IS ∷ theWord END ∷ closing entityPart ∷ behindEntity;
+            push = a_name ∷ the_word IS ∷ the_word END ∷ closing entity_part ∷ behind_entity;
             build = λ vs. design vs.0 vs.1.1.1.0.0 vs.1.1.1.0.1 vs.1.1.1.1.1.0 vs.1.1.1.1.1.1.1.0 vs.1.1.1.1.1.1.1.1.1.0 vs.1.1.1.1.1.1.1.1.1.1.0 vs.1.1.1.1.1.1.1.1.1.1.1.0.0 vs.1.1.1.1.1.1.1.1.1.1.1.0.1;
           }
           refl (λ _ small i. rw (ne_eqb _ 0 i)) [] (λ vs. vs.0) (omega arith)
-          ∙ r0.moves tt (theWord IS ∷ theWord END ∷ closing entityPart ∷ behindEntity) _ refl
-          ∙ w2.moves (theWord IS) record { push = []; build = λ _. tt } refl (only-word s b IS) (theWord END ∷ closing entityPart ∷ behindEntity) _ (omega arith)
-          ∙ w3.moves (theWord END) record { push = []; build = λ _. tt } refl (only-word s c END) (closing entityPart ∷ behindEntity) _ (omega arith)
-          ∙ r1.moves tt behindEntity _ refl
+          ∙ r0.moves tt (the_word IS ∷ the_word END ∷ closing entity_part ∷ behind_entity) _ refl
+          ∙ w2.moves (the_word IS) record { push = []; build = λ _. tt } refl (only-word s b IS) (the_word END ∷ closing entity_part ∷ behind_entity) _ (omega arith)
+          ∙ w3.moves (the_word END) record { push = []; build = λ _. tt } refl (only-word s c END) (closing entity_part ∷ behind_entity) _ (omega arith)
+          ∙ r1.moves tt behind_entity _ refl
           ∙ o.moves _;
       judges = λ z.
           let fe = o.fine z in
           let fd = r1.fine fe in
           let fc = w3.fine fd in
           let fb = w2.fine fc in
-          let closed : Judged 0 0 s d e l l1 v v (closingPartRoles (some (theName s a.at)) r1.tree) (λ m. m)
-          = subst (λ (o : Option Name). Judged 0 0 s d e l l1 v v (closingPartRoles o r1.tree) (λ m. m)) (own_name s a.at eo (nm.some fb)) (r1.judges fe) in
-          then-judged (w1.judges (r0.fine fb)) (then-judged (r0.judges fb) (then-judged (w2.judges fc) (then-judged (w3.judges fd) (then-judged closed (o.judges z)))));
+          let closed : Judged 0 0 s d e l l1 v v (closing_part_roles (some (the_name s a.at)) r1.tree) (λ m. m)
+          = subst (λ (o : Option Name). Judged 0 0 s d e l l1 v v (closing_part_roles o r1.tree) (λ m. m)) (own_name_lem s a.at eo (nm.some fb)) (r1.judges fe) in
+          then_judged (w1.judges (r0.fine fb)) (then_judged (r0.judges fb) (then_judged (w2.judges fc) (then_judged (w3.judges fd) (then_judged closed (o.judges z)))));
       ends = o.ends;
     }

@@ -5,23 +5,23 @@ use Rattle.std.proofs.Common.{arith}
 use Rattle.laws.specs.Text.{bytes}
 use Rattle.syntax.specs.Tree.{Design}
 use Rattle.table.specs.Translation.{translate}
-use Rattle.names.specs.CircuitOf.{circuitOf}
+use Rattle.names.specs.CircuitOf.{circuit_of}
 use Rattle.names.specs.Text.{accepts, refuses, Gets}
-use Rattle.layout.specs.TableWords.{tableSize, tableWords}
+use Rattle.layout.specs.TableWords.{table_size, table_words}
 use Rattle.reader.specs.declared.Tabled.{Tabled}
 use Rattle.reader.specs.declared.Tabled.TheVariants.{Written, Refused}
 
 -- 11 comes before all others, and has no place: 0
 pub data RefusedWith (text table : List ℕ) : ℕ → ℕ → Type 0 where
-  short : length table < tableSize → RefusedWith text table 11 0
-  turned : {number place : ℕ} → tableSize ≤ length table → Gets text (refuses number place) → RefusedWith text table number place
+  short : length table < table_size → RefusedWith text table 11 0
+  turned : {number place : ℕ} → table_size ≤ length table → Gets text (refuses number place) → RefusedWith text table number place
 
 -- the words of the circuit's translation stand in front of what stood behind them
 pub record Translates (text table after : List ℕ) : Type 0 where
-  pub long : tableSize ≤ length table
+  pub long : table_size ≤ length table
   pub tree : Design
   pub gets : Gets text (accepts tree)
-  pub words : after ≡ tableWords (translate (circuitOf tree)) ++ drop tableSize table
+  pub words : after ≡ table_words (translate (circuit_of tree)) ++ drop table_size table
 
 abbrev pub Tables : (text table : List ℕ) → Tabled → List ℕ → Type 0
 Tables text table Written after = Translates text table after

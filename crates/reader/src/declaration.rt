@@ -1,8 +1,8 @@
 // Names with their roles, and declarations of signals.
 ghost use Rattle.std.specs.Prelude.{◌≡◌, List, ℕ, ◌≤◌, length, get_or};
-ghost use Rattle.syntax.proofs.Rows.{aName, initialValue, moreSignals, signals};
-ghost use Rattle.emission.specs.Inside.Draft.{withName, declarationsDraft};
-ghost use Rattle.reading.specs.Inside.Reading.{Ready, Reads, Named, whole, declaresRoles, initialRoles, moreSignalsRoles, signalsRoles, initialDraft, moreSignalsDraft};
+ghost use Rattle.syntax.proofs.Rows.{a_name, initial_value, more_signals, signals};
+ghost use Rattle.emission.specs.Inside.Draft.{with_name, declarations_draft};
+ghost use Rattle.reading.specs.Inside.Reading.{Ready, Reads, Named, whole, declares_roles, initial_roles, more_signals_roles, signals_roles, initial_draft, more_signals_draft};
 
 use emission::start_values;
 use ledger::{SIGNALS, declare};
@@ -35,7 +35,7 @@ pub fn name(text: &[u8], p: Spot) -> Spot
 // A name in a declaration.
 fn declared(text: &[u8], ledger: &mut [u64; 328], p: Spot) -> Spot
     requires { Ready 0 text.now p ledger.old }
-    ensures { (v : List ℕ) → Reads (whole aName declaresRoles withName) text.now 32 p result ledger.old ledger.new v v }
+    ensures { (v : List ℕ) → Reads (whole a_name declares_roles with_name) text.now 32 p result ledger.old ledger.new v v }
 {
     if p.number != 0 {
         return p;
@@ -59,7 +59,7 @@ fn declared(text: &[u8], ledger: &mut [u64; 328], p: Spot) -> Spot
 // [`:=` literal] `;`, for the signals from the first on; upto is how many there are.
 fn initial(text: &[u8], table: &mut [u64], p: Spot, first: usize, upto: usize) -> Spot
     requires { p.at ≤ length text.now }
-    ensures { (l : List ℕ) → upto ≡ get_or l 2 0 → Reads (whole initialValue initialRoles (initialDraft first)) text.now 32 p result l l table.old table.new }
+    ensures { (l : List ℕ) → upto ≡ get_or l 2 0 → Reads (whole initial_value initial_roles (initial_draft first)) text.now 32 p result l l table.old table.new }
 {
     if p.number != 0 {
         return p;
@@ -101,7 +101,7 @@ fn more_signals(
     from: usize,
 ) -> Spot
     requires { Ready 0 text.now first ledger.old }
-    ensures { Reads (whole moreSignals moreSignalsRoles (moreSignalsDraft from)) text.now 32 first result ledger.old ledger.new table.old table.new }
+    ensures { Reads (whole more_signals more_signals_roles (more_signals_draft from)) text.now 32 first result ledger.old ledger.new table.old table.new }
 {
     let mut p = first;
     while p.number == 0 {
@@ -125,7 +125,7 @@ fn more_signals(
 // {signal} `begin`
 pub fn declarations(text: &[u8], ledger: &mut [u64; 328], table: &mut [u64], first: Spot) -> Spot
     requires { Ready 0 text.now first ledger.old }
-    ensures { Reads (whole signals signalsRoles declarationsDraft) text.now 32 first result ledger.old ledger.new table.old table.new }
+    ensures { Reads (whole signals signals_roles declarations_draft) text.now 32 first result ledger.old ledger.new table.old table.new }
 {
     let mut p = first;
     while p.number == 0 {

@@ -1,13 +1,13 @@
 // The whole text: refusals 1 to 10.
 ghost use Rattle.std.specs.Prelude.{◌≡◌, List, ℕ, ◌≤◌, ◌<◌, length};
-ghost use Rattle.syntax.proofs.Rows.{Part, aName, partWord, closing as closingPart};
+ghost use Rattle.syntax.proofs.Rows.{Part, a_name, part_word, closing as closingPart};
 ghost use Rattle.look.specs.Inside.Looks.{name_at};
-ghost use Rattle.look.proofs.Numbers.{fixedKind};
-ghost use Rattle.ledger.specs.Inside.Standing.{Sound, Keeps, Span, nameOption};
-ghost use Rattle.names.specs.Judge.{fine, nothingYet};
+ghost use Rattle.look.proofs.Numbers.{fixed_kind};
+ghost use Rattle.ledger.specs.Inside.Standing.{Sound, Keeps, Span, name_option};
+ghost use Rattle.names.specs.Judge.{fine, nothing_yet};
 ghost use Rattle.names.specs.Text.{Scanned};
 ghost use Rattle.reader.specs.Answers.{Answers};
-ghost use Rattle.reading.specs.Inside.Reading.{Ready, Reads, whole, belongsRoles, closingPartRoles, silent};
+ghost use Rattle.reading.specs.Inside.Reading.{Ready, Reads, whole, belongs_roles, closing_part_roles, silent};
 ghost use Rattle.reader.specs.Inside.Designs.{Finished, Behind, Designed, Surveyed};
 
 use crate::declaration::{declarations, name};
@@ -20,7 +20,7 @@ use reading::{Spot, word};
 // The name after `of`; the entity's own goes from one place to another.
 fn of_name(text: &[u8], ledger: &mut [u64; 328], p: Spot, from: usize, to: usize) -> Spot
     requires { Ready 0 text.now p ledger.old × Span text.now from to }
-    ensures { (v : List ℕ) → Reads (whole aName (belongsRoles (name_at text.now from to)) silent) text.now 32 p result ledger.old ledger.new v v }
+    ensures { (v : List ℕ) → Reads (whole a_name (belongs_roles (name_at text.now from to)) silent) text.now 32 p result ledger.old ledger.new v v }
 {
     if p.number != 0 {
         return p;
@@ -51,7 +51,7 @@ fn closing(
     to: usize,
 ) -> Spot
     requires { Ready 0 text.now p ledger.old × Span text.now from to × (kind < 117) }
-    ensures { (u : Part) → kind ≡ fixedKind (partWord u) → (v : List ℕ) → Reads (whole (closingPart u) (closingPartRoles (nameOption text.now from to)) silent) text.now 32 p result ledger.old ledger.new v v }
+    ensures { (u : Part) → kind ≡ fixed_kind (part_word u) → (v : List ℕ) → Reads (whole (closingPart u) (closing_part_roles (name_option text.now from to)) silent) text.now 32 p result ledger.old ledger.new v v }
 {
     if p.number != 0 {
         return p;
@@ -139,7 +139,7 @@ pub enum Checked {
 
 // A text that neither 1 nor 2 refuses, over a fresh ledger.
 fn judged(text: &[u8], ledger: &mut [u64; 328], table: &mut [u64]) -> Checked
-    requires { Scanned text.now × Keeps 0 text.now ledger.old (fine nothingYet) }
+    requires { Scanned text.now × Keeps 0 text.now ledger.old (fine nothing_yet) }
     ensures { Surveyed text.now result ledger.new }
 {
     let q = design(text, ledger, table);
@@ -166,7 +166,7 @@ fn judged(text: &[u8], ledger: &mut [u64; 328], table: &mut [u64]) -> Checked
 
 // Refusals 1 to 10 of any bytes, over a fresh ledger, which has the names of the signals where none applies.
 pub fn survey(text: &[u8], ledger: &mut [u64; 328], table: &mut [u64]) -> Checked
-    requires { Keeps 0 text.now ledger.old (fine nothingYet) }
+    requires { Keeps 0 text.now ledger.old (fine nothing_yet) }
     ensures { Surveyed text.now result ledger.new }
 {
     if 60000 < text.len() {

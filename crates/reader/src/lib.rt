@@ -4,7 +4,7 @@ pub mod design;
 pub mod process;
 
 ghost use Rattle.std.specs.Prelude.{◌≤◌, length};
-ghost use Rattle.layout.specs.TableWords.{tableSize};
+ghost use Rattle.layout.specs.TableWords.{table_size};
 ghost use Rattle.reader.specs.Answers.{Answers};
 ghost use Rattle.reader.specs.declared.design.Checked.TheVariants.{Accepted};
 ghost use Rattle.reader.specs.Tabled.{Translates, Tables};
@@ -23,7 +23,7 @@ pub enum Tabled {
 // The table of an accepted text.
 fn tabulate(text: &[u8], table: &mut [u64])
     requires answers { Answers text.now Accepted }
-    requires table_size_in_bounds { tableSize ≤ length table.old }
+    requires table_size_in_bounds { table_size ≤ length table.old }
     ensures { Translates text.now table.old table.new }
 {
     clear(table);

@@ -1,11 +1,11 @@
 // Processes.
 ghost use Rattle.std.specs.Prelude.{◌≡◌, List, ℕ, ◌≤◌, length};
-ghost use Rattle.syntax.proofs.Rows.{aName, moreListed, closingName, processBody, processes, beginning as beginningSymbol};
+ghost use Rattle.syntax.proofs.Rows.{a_name, more_listed, closing_name, process_body, processes, beginning as beginningSymbol};
 ghost use Rattle.look.specs.Inside.Looks.{look_of};
-ghost use Rattle.ledger.specs.Inside.Standing.{Span, nameOption};
-ghost use Rattle.emission.specs.Inside.Draft.{withListener, processesDraft};
+ghost use Rattle.ledger.specs.Inside.Standing.{Span, name_option};
+ghost use Rattle.emission.specs.Inside.Draft.{with_listener, processes_draft};
 ghost use Rattle.reading.specs.Inside.Spots.{Forward};
-ghost use Rattle.reading.specs.Inside.Reading.{Ready, Reads, Opens, whole, aList, aProcess, listensRoles, moreListedRoles, beginningRoles, closingNameRoles, bodyRoles, processesEndRoles, silent, moreListedDraft, bodyDraft};
+ghost use Rattle.reading.specs.Inside.Reading.{Ready, Reads, Opens, whole, a_list, a_process, listens_roles, more_listed_roles, beginning_roles, closing_name_roles, body_roles, processes_end_roles, silent, more_listed_draft, body_draft};
 
 use emission::{end_process, wake};
 use ledger::{PROCESSES, close, label, listen, open_process};
@@ -16,7 +16,7 @@ use statements::statements;
 // A name in a sensitivity list.
 fn listened(text: &[u8], ledger: &mut [u64; 328], table: &mut [u64], p: Spot) -> Spot
     requires { Ready 0 text.now p ledger.old }
-    ensures { Reads (whole aName listensRoles withListener) text.now 32 p result ledger.old ledger.new table.old table.new }
+    ensures { Reads (whole a_name listens_roles with_listener) text.now 32 p result ledger.old ledger.new table.old table.new }
 {
     if p.number != 0 {
         return p;
@@ -41,7 +41,7 @@ fn listened(text: &[u8], ledger: &mut [u64; 328], table: &mut [u64], p: Spot) ->
 // {`,` name} `)`
 fn more_listed(text: &[u8], ledger: &mut [u64; 328], table: &mut [u64], first: Spot) -> Spot
     requires { Ready 0 text.now first ledger.old }
-    ensures { Reads (whole moreListed moreListedRoles moreListedDraft) text.now 32 first result ledger.old ledger.new table.old table.new }
+    ensures { Reads (whole more_listed more_listed_roles more_listed_draft) text.now 32 first result ledger.old ledger.new table.old table.new }
 {
     let mut p = first;
     while p.number == 0 {
@@ -62,7 +62,7 @@ fn more_listed(text: &[u8], ledger: &mut [u64; 328], table: &mut [u64], first: S
 // [`(` name {`,` name} `)`]
 fn list(text: &[u8], ledger: &mut [u64; 328], table: &mut [u64], p: Spot) -> Spot
     requires { Ready 0 text.now p ledger.old }
-    ensures { Reads aList text.now 32 p result ledger.old ledger.new table.old table.new }
+    ensures { Reads a_list text.now 32 p result ledger.old ledger.new table.old table.new }
 {
     if p.number != 0 {
         return p;
@@ -83,7 +83,7 @@ fn list(text: &[u8], ledger: &mut [u64; 328], table: &mut [u64], p: Spot) -> Spo
 // [`is`] `begin`
 fn beginning(text: &[u8], p: Spot) -> Spot
     requires { p.at ≤ length text.now }
-    ensures { (l v : List ℕ) → Reads (whole beginningSymbol beginningRoles silent) text.now 32 p result l l v v }
+    ensures { (l v : List ℕ) → Reads (whole beginningSymbol beginning_roles silent) text.now 32 p result l l v v }
 {
     if p.number != 0 {
         return p;
@@ -103,7 +103,7 @@ fn beginning(text: &[u8], p: Spot) -> Spot
 // [name] `;`: the name of what is closed goes from one place to another, which are the same where there is none.
 pub fn closing_name(text: &[u8], ledger: &mut [u64; 328], p: Spot, from: usize, to: usize) -> Spot
     requires { Ready 0 text.now p ledger.old × Span text.now from to }
-    ensures { (v : List ℕ) → Reads (whole closingName (closingNameRoles (nameOption text.now from to)) silent) text.now 32 p result ledger.old ledger.new v v }
+    ensures { (v : List ℕ) → Reads (whole closing_name (closing_name_roles (name_option text.now from to)) silent) text.now 32 p result ledger.old ledger.new v v }
 {
     if p.number != 0 {
         return p;
@@ -131,7 +131,7 @@ fn body(
     to: usize,
 ) -> Spot
     requires { Ready 0 text.now p ledger.old × Span text.now from to }
-    ensures { Reads (whole processBody (bodyRoles (nameOption text.now from to)) bodyDraft) text.now 32 p result ledger.old ledger.new table.old table.new }
+    ensures { Reads (whole process_body (body_roles (name_option text.now from to)) body_draft) text.now 32 p result ledger.old ledger.new table.old table.new }
 {
     let a = list(text, ledger, table, p);
     let b = beginning(text, a);
@@ -170,7 +170,7 @@ fn opening(text: &[u8], ledger: &mut [u64; 328], p: Spot) -> Spot
 fn process(text: &[u8], ledger: &mut [u64; 328], table: &mut [u64], p: Spot, t: Look) -> Spot
     requires ready { Ready 0 text.now p ledger.old }
     requires number_value { (p.number ≡ 0) × (t ≡ look_of text.now p.at) × (t.kind ≡ 2 → ⊥) }
-    ensures { Reads aProcess text.now 32 p result ledger.old ledger.new table.old table.new × Forward p result }
+    ensures { Reads a_process text.now 32 p result ledger.old ledger.new table.old table.new × Forward p result }
 {
     if t.kind == Look::NAME {
         label(text, ledger, t.start, t.end);
@@ -190,7 +190,7 @@ fn process(text: &[u8], ledger: &mut [u64; 328], table: &mut [u64], p: Spot, t: 
 // {process} `end`
 pub fn process_list(text: &[u8], ledger: &mut [u64; 328], table: &mut [u64], first: Spot) -> Spot
     requires { Ready 0 text.now first ledger.old }
-    ensures { Reads (whole processes processesEndRoles processesDraft) text.now 32 first result ledger.old ledger.new table.old table.new }
+    ensures { Reads (whole processes processes_end_roles processes_draft) text.now 32 first result ledger.old ledger.new table.old table.new }
 {
     let mut p = first;
     while p.number == 0 {

@@ -16,11 +16,11 @@ use Rattle.names.specs.Roles.{Role}
 use Rattle.look.specs.declared.Look.{Look}
 use Rattle.look.specs.Inside.Looks.{part, look_of}
 use Rattle.look.proofs.Looks.{View, there, gone, seen, seen-there}
-use Rattle.look.proofs.Numbers.{fixedKind, takenBy}
+use Rattle.look.proofs.Numbers.{fixed_kind, taken_by}
 use Rattle.ledger.specs.Inside.Standing.{Span, Judges}
 use Rattle.reading.specs.declared.Spot.{Spot}
 use Rattle.reading.specs.Inside.Spots.{verdict, past, unfit, word_of, addressed}
-use Rattle.reading.specs.Inside.Reading.{What, whole, anExpression, aTail, aStatement, someStatements, aList, aMore, aProcess, given, closes, Tree, Context, top, step, Ready, Reads, Named}
+use Rattle.reading.specs.Inside.Reading.{What, whole, an_expression, a_tail, a_statement, some_statements, a_list, a_more, a_process, given, closes, Tree, Context, top, step, Ready, Reads, Named}
 use Rattle.reading.proofs.Moves.{off, stuck-moves}
 use Rattle.reading.proofs.Words.{worded}
 
@@ -36,13 +36,13 @@ within_text (gone x) = omega (arith, x.start)
 -- some tree, where a refusal leaves none
 filler : (w : What) → Tree w
 filler (whole X f g) = fill X
-filler anExpression = expression (plain (named [])) alone
-filler aTail = alone
-filler aStatement = null
-filler someStatements = done
-filler aList = unlisted
-filler (aMore d) = enough
-filler aProcess = process none unlisted false done none
+filler an_expression = expression (plain (named [])) alone
+filler a_tail = alone
+filler a_statement = null
+filler some_statements = done
+filler a_list = unlisted
+filler (a_more d) = enough
+filler a_process = process none unlisted false done none
 filler (given X v f) = tt
 filler (closes b f g) = fill-closing b
 
@@ -58,7 +58,7 @@ reads-off w {s} {room} {p} h f =
     }
 
 pub reads-stuck : (w : What) {s : List ℕ} {room : ℕ} {p : Spot} {n : ℕ} {l l' v v' : List ℕ} {t : Look} → p.at ≤ length s → p.number ≡ 0 → t ≡ look_of s p.at
-    → ((c : Context w) (small : t.kind < 117) → takenBy (part s t.start t.end) t.kind small (rows (top w c)) ≡ false)
+    → ((c : Context w) (small : t.kind < 117) → taken_by (part s t.start t.end) t.kind small (rows (top w c)) ≡ false)
     → Reads w s room p (unfit t n) l l' v v'
 reads-stuck w {s} {room} {p} {n} {t = t} h f e g =
     let sight = seen h e in
@@ -72,9 +72,9 @@ reads-stuck w {s} {room} {p} {n} {t = t} h f e g =
     }
 
 -- the address does not count
-pub to-address : (s : List ℕ) (q : Spot) (n : ℕ) (ss : List Symbol) (k : Values Value ss → Design) → verdict s q ss k ≡ verdict s (addressed q n) ss k
+pub to_address : (s : List ℕ) (q : Spot) (n : ℕ) (ss : List Symbol) (k : Values Value ss → Design) → verdict s q ss k ≡ verdict s (addressed q n) ss k
 unfolding verdict
-to-address s q n ss k = refl
+to_address s q n ss k = refl
 
 -- WHAT A CALL NEEDS
 
@@ -93,7 +93,7 @@ module _ {u : ℕ} {s : List ℕ} {p : Spot} {l : List ℕ} (r : Ready u s p l) 
   pub ready-pass : {n : ℕ} {t : Look} → p.number ≡ 0 → t ≡ look_of s p.at → (t.kind ≡ 117 → ⊥) → Ready u s (past t n) l
   ready-pass f e g = record { inside = (seen-there r.inside e g).inside; sound = λ _. r.sound f }
 
-  pub ready-word : (w : Fixed) {q : Spot} → q ≡ word_of s p (fixedKind w) → Ready u s q l
+  pub ready-word : (w : Fixed) {q : Spot} → q ≡ word_of s p (fixed_kind w) → Ready u s q l
   ready-word w e = let d = worded w r.inside e in record { inside = d.inside; sound = λ f. r.sound (d.fine f) }
 
 -- past what a call has read

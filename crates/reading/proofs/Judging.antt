@@ -12,11 +12,11 @@ use Rattle.look.specs.declared.Look.{Look}
 use Rattle.look.proofs.Looks.{There}
 use Rattle.ledger.specs.Inside.Standing.{Keeps, Judges}
 use Rattle.reading.specs.declared.Spot.{Spot}
-use Rattle.emission.specs.Inside.Draft.{Draft, placed, following, put, withName, withProcess}
+use Rattle.emission.specs.Inside.Draft.{Draft, placed, following, put, with_name, with_process}
 use Rattle.table.specs.Instructions.{Instruction}
-use Rattle.layout.specs.TableWords.{operationWord, delayWord}
+use Rattle.layout.specs.TableWords.{operation_word, delay_word}
 use Rattle.laws.specs.Pick.{pick}
-use Rattle.reading.specs.Inside.Spots.{startsFrom, judgement, drafted, Judged, past, addressed}
+use Rattle.reading.specs.Inside.Spots.{starts_from, judgement, drafted, Judged, past, addressed}
 
 pub onward-onward : (j : Judgement) (f g : State → Judgement) → onward j (λ y. onward (f y) g) ≡ onward (onward j f) g
 onward-onward (fine y) f g = refl
@@ -51,38 +51,38 @@ lowest-fine (row ∷ rows) place {y} {z} e = go row.1 (λ h. lowest-fine rows pl
     go false more e = more e
 
 -- what a token in its role adds to the draft
-abbrev pub draftOf : Role → Draft → Draft
-draftOf (declares n) m = withName n m
-draftOf (labels n) m = m
-draftOf (listens n) m = m
-draftOf (reads n) m = m
-draftOf (assigns n) m = m
-draftOf (belongs e n) m = m
-draftOf (closes o n) m = m
-draftOf opens m = withProcess m
-draftOf (delays n u) m = m
-draftOf (counts k) m = m
-draftOf passes m = m
+abbrev pub draft_of : Role → Draft → Draft
+draft_of (declares n) m = with_name n m
+draft_of (labels n) m = m
+draft_of (listens n) m = m
+draft_of (reads n) m = m
+draft_of (assigns n) m = m
+draft_of (belongs e n) m = m
+draft_of (closes o n) m = m
+draft_of opens m = with_process m
+draft_of (delays n u) m = m
+draft_of (counts k) m = m
+draft_of passes m = m
 
-pub drafted-next : (role : Role) (y : State) (v : List ℕ) (n : ℕ) → draftOf role (drafted y v n) ≡ drafted (next y role) v n
-unfolding withName withProcess
-drafted-next (declares n) y v i = refl
-drafted-next (labels n) y v i = refl
-drafted-next (listens n) y v i = refl
-drafted-next (reads n) y v i = refl
-drafted-next (assigns n) y v i = refl
-drafted-next (belongs e n) y v i = refl
-drafted-next (closes o n) y v i = refl
-drafted-next opens y v i = refl
-drafted-next (delays n u) y v i = refl
-drafted-next (counts k) y v i = refl
-drafted-next passes y v i = refl
+pub drafted_next : (role : Role) (y : State) (v : List ℕ) (n : ℕ) → draft_of role (drafted y v n) ≡ drafted (next y role) v n
+unfolding with_name with_process
+drafted_next (declares n) y v i = refl
+drafted_next (labels n) y v i = refl
+drafted_next (listens n) y v i = refl
+drafted_next (reads n) y v i = refl
+drafted_next (assigns n) y v i = refl
+drafted_next (belongs e n) y v i = refl
+drafted_next (closes o n) y v i = refl
+drafted_next opens y v i = refl
+drafted_next (delays n u) y v i = refl
+drafted_next (counts k) y v i = refl
+drafted_next passes y v i = refl
 
 -- the next instruction, in the draft's words
-pub put-drafted : (i : Instruction) (y : State) (m : ℕ) (v : List ℕ) {n : ℕ} {w : List ℕ} → n ≡ following m → w ≡ placed v m (operationWord i) (delayWord i)
+pub put-drafted : (i : Instruction) (y : State) (m : ℕ) (v : List ℕ) {n : ℕ} {w : List ℕ} → n ≡ following m → w ≡ placed v m (operation_word i) (delay_word i)
     → put i (drafted y v m) ≡ drafted y w n
 unfolding put
-put-drafted i y m v {n} {w} e g = sym (ap (λ k. drafted y (placed v m (operationWord i) (delayWord i)) k) e) ∙ sym (ap (λ u. drafted y u n) g)
+put-drafted i y m v {n} {w} e g = sym (ap (λ k. drafted y (placed v m (operation_word i) (delay_word i)) k) e) ∙ sym (ap (λ u. drafted y u n) g)
 
 -- ONE PART AFTER THE OTHER
 
@@ -90,16 +90,16 @@ put-drafted i y m v {n} {w} e g = sym (ap (λ k. drafted y (placed v m (operatio
 pub none-judged : {u : ℕ} {s : List ℕ} {p : Spot} {l v : List ℕ} → Judged u u s p p l l v v (λ r. r) (λ m. m)
 none-judged {p = p} {v = v} = record { after = λ j. j; keeps = λ j h. h; folds = λ j r. refl; writes = λ y y' k e. ap (λ z. drafted z v p.next) (fine-state e) }
 
-judgement-end : (s : List ℕ) (at : ℕ) (j : Judgement) → judgement s at j [] ≡ j
+judgement_end : (s : List ℕ) (at : ℕ) (j : Judgement) → judgement s at j [] ≡ j
 unfolding judgement judged
-judgement-end s at (fine y) = refl
-judgement-end s at (refused n p) = refl
+judgement_end s at (fine y) = refl
+judgement_end s at (refused n p) = refl
 
 module _ {u u' : ℕ} {s : List ℕ} {p q : Spot} {l l' v v' : List ℕ} {f : List Role → List Role} {d : Draft → Draft} (a : Judged u u' s p q l l' v v' f d) where
   -- what is refused stays so
   refused-stays : (n c : ℕ) → a.after (refused n c) ≡ refused n c
   unfolding judgement
-  refused-stays n c = sym (judgement-end s q.at (a.after (refused n c))) ∙ sym (a.folds (refused n c) [])
+  refused-stays n c = sym (judgement_end s q.at (a.after (refused n c))) ∙ sym (a.folds (refused n c) [])
 
   -- where nothing is refused behind a part, nothing was before it
   pub fine_before : (j : Judgement) {y : State} → a.after j ≡ fine y → Fine j
@@ -113,13 +113,13 @@ module _ {u u' : ℕ} {s : List ℕ} {p q : Spot} {l l' v v' : List ℕ} {f : Li
   redrafted h = record { after = a.after; keeps = a.keeps; folds = a.folds; writes = λ y y' k e. h y y' k e (a.writes y y' k e) }
 
   -- the next instruction follows
-  unfoldable pub put-judged : (i : Instruction) {n : ℕ} {w : List ℕ} → n ≡ following q.next → w ≡ placed v' q.next (operationWord i) (delayWord i)
+  unfoldable pub put-judged : (i : Instruction) {n : ℕ} {w : List ℕ} → n ≡ following q.next → w ≡ placed v' q.next (operation_word i) (delay_word i)
       → Judged u u' s p (addressed q n) l l' v w f (λ m. put i (d m))
   put-judged i e g = redrafted (λ y y' k z h. ap (put i) h ∙ put-drafted i y' q.next v' e g)
 
 module _ {u u' u'' : ℕ} {s : List ℕ} {p q r : Spot} {l l' l'' v v' v'' : List ℕ} {f g : List Role → List Role} {d o : Draft → Draft} where
-  unfoldable pub then-judged : Judged u u' s p q l l' v v' f d → Judged u' u'' s q r l' l'' v' v'' g o → Judged u u'' s p r l l'' v v'' (λ rs. f (g rs)) (λ m. o (d m))
-  then-judged a b =
+  unfoldable pub then_judged : Judged u u' s p q l l' v v' f d → Judged u' u'' s q r l' l'' v' v'' g o → Judged u u'' s p r l l'' v v'' (λ rs. f (g rs)) (λ m. o (d m))
+  then_judged a b =
       record {
         after = λ j. b.after (a.after j);
         keeps = λ j h. b.keeps (a.after j) (a.keeps j h);
@@ -133,15 +133,15 @@ module _ {u u' u'' : ℕ} {s : List ℕ} {p q r : Spot} {l l' l'' v v' v'' : Lis
 
 module _ {s : List ℕ} {p : Spot} {t : Look} (x : There s p.at t) {v : List ℕ} where
   unfoldable pub token-judged : (role : Role) {u u' : ℕ} {l l' : List ℕ} → Judges u u' s role t.start l l'
-      → Judged u u' s p (past t p.next) l l' v v (λ r. role ∷ r) (draftOf role)
+      → Judged u u' s p (past t p.next) l l' v v (λ r. role ∷ r) (draft_of role)
   unfolding judgement judged
   token-judged role h =
       record {
         after = λ j. onward j (λ y. judge y role t.start);
         keeps = h.keeps;
         folds = λ j r. ap (λ (ls : List Placed). onward j (λ y. judged y (role ∷ r) (map (λ p. p.start) ls))) x.tokens
-            ∙ onward-onward j (λ y. judge y role t.start) (λ y. judged y r (startsFrom s t.end));
-        writes = λ y y' k e. drafted-next role y v p.next ∙ ap (λ z. drafted z v p.next) (lowest-fine (faults y role) t.start e);
+            ∙ onward-onward j (λ y. judge y role t.start) (λ y. judged y r (starts_from s t.end));
+        writes = λ y y' k e. drafted_next role y v p.next ∙ ap (λ z. drafted z v p.next) (lowest-fine (faults y role) t.start e);
       }
 
   -- a token that nothing is said of

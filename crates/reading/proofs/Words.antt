@@ -12,18 +12,18 @@ use borrow.Author.Tests.{eq-eqb, ne_eqb, eqb-true}
 use Rattle.laws.specs.Pick.{pick}
 use Rattle.words.specs.Token.{Fixed, fixed, ENTITY, IS, END, ARCHITECTURE, OF, SIGNAL, BEGIN, BOOLEAN, PROCESS, TRANSPORT, AFTER, IF, THEN, ELSE, NULL, NOT, OPEN, CLOSE, COMMA, COLON, SEMICOLON, ARROW, BECOMES}
 use Rattle.syntax.specs.Tree.{Design}
-use Rattle.syntax.specs.Sentence.{mostOpen}
+use Rattle.syntax.specs.Sentence.{most_open}
 use Rattle.syntax.proofs.Machine.{Values, Step, made, weights}
-use Rattle.syntax.proofs.Rows.{Symbol, theWord, Value, rows, next}
+use Rattle.syntax.proofs.Rows.{Symbol, the_word, Value, rows, next}
 use Rattle.syntax.proofs.Nesting.{weight}
 use Rattle.names.specs.Roles.{passes}
 use Rattle.look.specs.declared.Look.{Look}
 use Rattle.look.specs.Inside.Looks.{part, look_of}
 use Rattle.look.proofs.Looks.{There, View, there, gone, seen}
-use Rattle.look.proofs.Numbers.{fixedKind, takenBy, fixed-seen}
+use Rattle.look.proofs.Numbers.{fixed_kind, taken_by, fixed-seen}
 use Rattle.reading.specs.declared.Spot.{Spot}
-use Rattle.reading.specs.Inside.Spots.{verdict, Judged, past, unfit, wordFrom, word_of}
-use Rattle.reading.proofs.Moves.{off, some-moves, stuck-moves}
+use Rattle.reading.specs.Inside.Spots.{verdict, Judged, past, unfit, word_from, word_of}
+use Rattle.reading.proofs.Moves.{off, some_moves, stuck-moves}
 use Rattle.reading.proofs.Judging.{passes-judged}
 
 -- what can have happened
@@ -42,13 +42,13 @@ way : (s : List ℕ) (p : Spot) (kind : ℕ) → p.at ≤ length s → (kind ≡
 unfolding word_of
 way s p kind h g = go (eqb p.number 0) refl
   where
-    go : (b : Bool) → eqb p.number 0 ≡ b → Way s p kind (pick b (wordFrom (look_of s p.at) p kind) p)
+    go : (b : Bool) → eqb p.number 0 ≡ b → Way s p kind (pick b (word_from (look_of s p.at) p kind) p)
     go true e = by_kind s p kind (look_of s p.at) g (eqb-true _ _ e) refl (seen h refl) (eqb (look_of s p.at).kind kind) refl
     go false e = stays (λ f. let z : ◌≡◌ {A = Bool} true false = sym (eq-eqb _ _ f) ∙ e in let o : ◌≡◌ {A = ℕ} 0 1 = cc in omega arith)
 
 -- X takes the word and no other token that may stand at p
 abbrev pub OnlyAt : List ℕ → Symbol → Fixed → Look → Type 0
-OnlyAt s X w t = (small : t.kind < 117) → (t.kind ≡ fixedKind w → ⊥) → takenBy (part s t.start t.end) t.kind small (rows X) ≡ false
+OnlyAt s X w t = (small : t.kind < 117) → (t.kind ≡ fixed_kind w → ⊥) → taken_by (part s t.start t.end) t.kind small (rows X) ≡ false
 
 abbrev pub Only : List ℕ → Spot → Symbol → Fixed → Type 0
 Only s p X w = p.number ≡ 0 → OnlyAt s X w (look_of s p.at)
@@ -59,36 +59,36 @@ pub record Worded (w : Fixed) (s : List ℕ) (p q : Spot) : Type 0 where
   pub inside : q.at ≤ length s
   pub further : q.number ≡ 0 → p.at < q.at
   pub moves : (X : Symbol) (st : Step Value X) → next X (fixed w) ≡ some st → Only s p X w
-      → (ss : List Symbol) (k : Values Value (X ∷ ss) → Design) → weights weight (st.push ++ ss) ≤ mostOpen
+      → (ss : List Symbol) (k : Values Value (X ∷ ss) → Design) → weights weight (st.push ++ ss) ≤ most_open
       → verdict s p (X ∷ ss) k ≡ verdict s q (st.push ++ ss) (λ us. k (made Value st ss us))
   pub judges : q.number ≡ 0 → {u : ℕ} {l v : List ℕ} → Judged u u s p q l l v v (λ r. passes ∷ r) (λ m. m)
 
-fixed-end : (w : Fixed) → fixedKind w ≡ 117 → ⊥
-fixed-end ENTITY e = omega arith
-fixed-end IS e = omega arith
-fixed-end END e = omega arith
-fixed-end ARCHITECTURE e = omega arith
-fixed-end OF e = omega arith
-fixed-end SIGNAL e = omega arith
-fixed-end BEGIN e = omega arith
-fixed-end BOOLEAN e = omega arith
-fixed-end PROCESS e = omega arith
-fixed-end TRANSPORT e = omega arith
-fixed-end AFTER e = omega arith
-fixed-end IF e = omega arith
-fixed-end THEN e = omega arith
-fixed-end ELSE e = omega arith
-fixed-end NULL e = omega arith
-fixed-end NOT e = omega arith
-fixed-end OPEN e = omega arith
-fixed-end CLOSE e = omega arith
-fixed-end COMMA e = omega arith
-fixed-end COLON e = omega arith
-fixed-end SEMICOLON e = omega arith
-fixed-end ARROW e = omega arith
-fixed-end BECOMES e = omega arith
+fixed_end : (w : Fixed) → fixed_kind w ≡ 117 → ⊥
+fixed_end ENTITY e = omega arith
+fixed_end IS e = omega arith
+fixed_end END e = omega arith
+fixed_end ARCHITECTURE e = omega arith
+fixed_end OF e = omega arith
+fixed_end SIGNAL e = omega arith
+fixed_end BEGIN e = omega arith
+fixed_end BOOLEAN e = omega arith
+fixed_end PROCESS e = omega arith
+fixed_end TRANSPORT e = omega arith
+fixed_end AFTER e = omega arith
+fixed_end IF e = omega arith
+fixed_end THEN e = omega arith
+fixed_end ELSE e = omega arith
+fixed_end NULL e = omega arith
+fixed_end NOT e = omega arith
+fixed_end OPEN e = omega arith
+fixed_end CLOSE e = omega arith
+fixed_end COMMA e = omega arith
+fixed_end COLON e = omega arith
+fixed_end SEMICOLON e = omega arith
+fixed_end ARROW e = omega arith
+fixed_end BECOMES e = omega arith
 
-worded-way : {w : Fixed} {s : List ℕ} {p q : Spot} → p.at ≤ length s → Way s p (fixedKind w) q → Worded w s p q
+worded-way : {w : Fixed} {s : List ℕ} {p q : Spot} → p.at ≤ length s → Way s p (fixed_kind w) q → Worded w s p q
 worded-way {w} {s} {p} h (stays f) =
     record {
       fine = λ e. e;
@@ -104,7 +104,7 @@ worded-way {w} {s} {p} h (takes {t} f x e) =
       ahead = omega (arith, x.after, x.some);
       inside = x.inside;
       further = λ _. omega (arith, x.after, x.some);
-      moves = λ X st m o ss k d. some-moves s p f p.next X x st (ap (next X) (fixed-seen s t w e) ∙ m) ss k d;
+      moves = λ X st m o ss k d. some_moves s p f p.next X x st (ap (next X) (fixed-seen s t w e) ∙ m) ss k d;
       judges = λ _. passes-judged x;
     }
 worded-way {w} {s} {p} h (refuses {t} {n} f e g) = refused-way (seen h e)
@@ -128,9 +128,9 @@ worded-way {w} {s} {p} h (refuses {t} {n} f e g) = refused-way (seen h e)
         far (there x) = omega (arith, x.some, x.inside)
         far (gone x) = omega (arith, x.start)
 
-pub worded : (w : Fixed) {s : List ℕ} {p q : Spot} → p.at ≤ length s → q ≡ word_of s p (fixedKind w) → Worded w s p q
-worded w {s} {p} h e = subst (Worded w s p) (sym e) (worded-way h (way s p (fixedKind w) h (fixed-end w)))
+pub worded : (w : Fixed) {s : List ℕ} {p q : Spot} → p.at ≤ length s → q ≡ word_of s p (fixed_kind w) → Worded w s p q
+worded w {s} {p} h e = subst (Worded w s p) (sym e) (worded-way h (way s p (fixed_kind w) h (fixed_end w)))
 
 -- the word itself takes no other
-pub only-word : (s : List ℕ) (p : Spot) (w : Fixed) → Only s p (theWord w) w
+pub only-word : (s : List ℕ) (p : Spot) (w : Fixed) → Only s p (the_word w) w
 only-word s p w _ small g = rw (ne_eqb _ _ g)

@@ -1,13 +1,13 @@
 -- Cycles, start and advance, over what each process means: one definition for statements and for tables. Assumes nothing: these are definitions.
 use Rattle.std.specs.Prelude.{ℕ, zero, suc, ◌+◌, true, List, [], ◌∷◌, ◌++◌, map, ltb, length, replicate}
 use Rattle.laws.specs.Pick.{pick}
-use Rattle.rules.specs.Sizes.{mostCycles}
+use Rattle.rules.specs.Sizes.{most_cycles}
 use Rattle.rules.specs.Outcome.{Outcome, refuses, gives, ◌then◌}
 use Rattle.rules.specs.Formulas.{Values}
-use Rattle.rules.specs.Pending.{kept, valuesAt, due, Least, nothing, first, least}
+use Rattle.rules.specs.Pending.{kept, values_at, due, Least, nothing, first, least}
 use Rattle.rules.specs.Runner.{Runner, joined}
 use Rattle.rules.specs.Session.{Session, woken}
-use Rattle.rules.specs.Dump.{startBytes, advanceBytes}
+use Rattle.rules.specs.Dump.{start_bytes, advance_bytes}
 
 -- what a call has done so far
 pub record Progress : Type 0 where
@@ -25,7 +25,7 @@ pub record Moved : Type 0 where
 pub data Answer : Type 0 where
   refused : ℕ → Answer
   quiet : Answer
-  stopReached : Answer
+  stop_reached : Answer
   moved : Moved → Answer
 
 -- the answer of a call that wrote these bytes for the values after the last cycle
@@ -39,7 +39,7 @@ module _ (rs : List Runner) where
   unfoldable pub cycle : ℕ → Progress → Outcome Progress
   cycle t m =
       let s = m.session in
-      let new = valuesAt t s.values s.pending in
+      let new = values_at t s.values s.pending in
       let p = map (kept t) s.pending in
       joined rs new t (woken s.values new) p (record { pending = p; steps = m.steps })
       then (λ a. gives (record { session = record { time = t; values = new; pending = a.pending }; cycles = m.cycles + 1; steps = a.steps }))
@@ -54,26 +54,26 @@ module _ (rs : List Runner) where
   started initial =
       let p = replicate (length initial) [] in
       joined rs initial 0 (λ wakes. true) p (record { pending = p; steps = 0 })
-      then (λ a. cycles mostCycles 0 (record { session = record { time = 0; values = initial; pending = a.pending }; cycles = 0; steps = a.steps }))
+      then (λ a. cycles most_cycles 0 (record { session = record { time = 0; values = initial; pending = a.pending }; cycles = 0; steps = a.steps }))
 
   unfoldable pub start : Values → Answer
-  start initial = answered startBytes (started initial)
+  start initial = answered start_bytes (started initial)
 
   -- from the least pending time on
-  abbrev pub advanceTo : ℕ → Session → Least → Answer
-  advanceTo stop s nothing = quiet
-  advanceTo stop s (first t) =
-      pick (ltb stop t) stopReached
-      (answered (advanceBytes t s.values) (cycles mostCycles t (record { session = s; cycles = 0; steps = 0 })))
+  abbrev pub advance_to : ℕ → Session → Least → Answer
+  advance_to stop s nothing = quiet
+  advance_to stop s (first t) =
+      pick (ltb stop t) stop_reached
+      (answered (advance_bytes t s.values) (cycles most_cycles t (record { session = s; cycles = 0; steps = 0 })))
 
   unfoldable pub advance : ℕ → Session → Answer
-  advance stop s = advanceTo stop s (least s.pending)
+  advance stop s = advance_to stop s (least s.pending)
 
 -- the session after a call: as it was, but where the call moved
 abbrev pub leaves : Answer → Session → Session
 leaves (refused r) s = s
 leaves quiet s = s
-leaves stopReached s = s
+leaves stop_reached s = s
 leaves (moved m) s = m.session
 
 -- calls one after the other, with these stops, each on the session that the one before left
@@ -84,7 +84,7 @@ advances rs s (stop ∷ stops) = advance rs stop s ∷ advances rs (leaves (adva
 abbrev pub following : List Runner → Answer → List ℕ → List Answer
 following rs (refused r) stops = []
 following rs quiet stops = []
-following rs stopReached stops = []
+following rs stop_reached stops = []
 following rs (moved m) stops = advances rs m.session stops
 
 -- start, and then these
@@ -96,5 +96,5 @@ unfoldable pub written : List Answer → List ℕ
 written [] = []
 written (refused r ∷ more) = written more
 written (quiet ∷ more) = written more
-written (stopReached ∷ more) = written more
+written (stop_reached ∷ more) = written more
 written (moved m ∷ more) = m.bytes ++ written more

@@ -46,8 +46,8 @@ unfoldable pub all : ℕ → Values → List ℕ
 all k [] = []
 all k (v ∷ vs) = shown k v ++ all (suc k) vs
 
-unfoldable pub startBytes : Values → List ℕ
-startBytes vs = bytes "#0\n$dumpvars\n" ++ (all 0 vs ++ bytes "$end\n")
+unfoldable pub start_bytes : Values → List ℕ
+start_bytes vs = bytes "#0\n$dumpvars\n" ++ (all 0 vs ++ bytes "$end\n")
 
 -- each signal whose value differs from that before, from signal k on
 unfoldable pub changed : ℕ → Values → Values → List ℕ
@@ -60,22 +60,22 @@ abbrev pub headed : ℕ → List ℕ → List ℕ
 headed t [] = []
 headed t (b ∷ bs) = bytes "#" ++ (decimal t ++ (LF ∷ b ∷ bs))
 
-unfoldable pub advanceBytes : ℕ → Values → Values → List ℕ
-advanceBytes t old new = headed t (changed 0 old new)
+unfoldable pub advance_bytes : ℕ → Values → Values → List ℕ
+advance_bytes t old new = headed t (changed 0 old new)
 
-header-A : header (bytes "pair") (bytes "q" ∷ bytes "d" ∷ [])
+header_a : header (bytes "pair") (bytes "q" ∷ bytes "d" ∷ [])
     ≡ bytes "$timescale 1 fs $end\n$scope module pair $end\n$var wire 1 ! q $end\n$var wire 1 \" d $end\n$upscope $end\n$enddefinitions $end\n"
 unfolding header variables
-header-A = refl
+header_a = refl
 
-start-A : startBytes (false ∷ true ∷ []) ≡ bytes "#0\n$dumpvars\n0!\n1\"\n$end\n"
-unfolding startBytes all
-start-A = refl
+start_a : start_bytes (false ∷ true ∷ []) ≡ bytes "#0\n$dumpvars\n0!\n1\"\n$end\n"
+unfolding start_bytes all
+start_a = refl
 
-largest-time : advanceBytes 1000000000000000000 (false ∷ true ∷ []) (true ∷ true ∷ []) ≡ bytes "#1000000000000000000\n1!\n"
-unfolding advanceBytes changed decimal digits
-largest-time = refl
+largest_time : advance_bytes 1000000000000000000 (false ∷ true ∷ []) (true ∷ true ∷ []) ≡ bytes "#1000000000000000000\n1!\n"
+unfolding advance_bytes changed decimal digits
+largest_time = refl
 
-no_change : advanceBytes 7 (false ∷ true ∷ []) (false ∷ true ∷ []) ≡ []
-unfolding advanceBytes changed
+no_change : advance_bytes 7 (false ∷ true ∷ []) (false ∷ true ∷ []) ≡ []
+unfolding advance_bytes changed
 no_change = refl

@@ -1,7 +1,7 @@
 -- Pending changes, posts, and the changes that are due. Assumes nothing: these are definitions.
 use Rattle.std.specs.Prelude.{ℕ, min, ◌≡◌, refl, Bool, true, false, ◌||◌, List, [], ◌∷◌, ◌++◌, map, ltb, eqb, length, get_or, set}
 use Rattle.laws.specs.Pick.{pick}
-use Rattle.rules.specs.Sizes.{mostPending}
+use Rattle.rules.specs.Sizes.{most_pending}
 use Rattle.rules.specs.Outcome.{Outcome, refuses, gives}
 use Rattle.rules.specs.Formulas.{Values}
 
@@ -29,7 +29,7 @@ before t (c ∷ cs) = let rest = before t cs in pick (ltb c.time t) (c ∷ rest)
 unfoldable pub post : ℕ → Change → Pending → Outcome Pending
 post k c p =
     let earlier = before c.time (get_or p k []) in
-    pick (ltb (length earlier) mostPending) (gives (set p k (earlier ++ (c ∷ [])))) (refuses 15)
+    pick (ltb (length earlier) most_pending) (gives (set p k (earlier ++ (c ∷ [])))) (refuses 15)
 
 -- CHANGES THAT ARE DUE
 
@@ -43,19 +43,19 @@ unfoldable pub kept : ℕ → List Change → List Change
 kept t [] = []
 kept t (c ∷ cs) = let rest = kept t cs in pick (eqb c.time t) rest (c ∷ rest)
 
-unfoldable pub valuesAt : ℕ → Values → Pending → Values
-valuesAt t [] p = []
-valuesAt t (v ∷ vs) [] = v ∷ vs
-valuesAt t (v ∷ vs) (cs ∷ p) = taken t v cs ∷ valuesAt t vs p
+unfoldable pub values_at : ℕ → Values → Pending → Values
+values_at t [] p = []
+values_at t (v ∷ vs) [] = v ∷ vs
+values_at t (v ∷ vs) (cs ∷ p) = taken t v cs ∷ values_at t vs p
 
 -- something is pending at t
-unfoldable pub dueIn : ℕ → List Change → Bool
-dueIn t [] = false
-dueIn t (c ∷ cs) = eqb c.time t || dueIn t cs
+unfoldable pub due_in : ℕ → List Change → Bool
+due_in t [] = false
+due_in t (c ∷ cs) = eqb c.time t || due_in t cs
 
 unfoldable pub due : ℕ → Pending → Bool
 due t [] = false
-due t (cs ∷ p) = dueIn t cs || due t p
+due t (cs ∷ p) = due_in t cs || due t p
 
 -- the least of all pending times, if there is one
 pub data Least : Type 0 where
@@ -66,13 +66,13 @@ abbrev pub lower : ℕ → Least → Least
 lower t nothing = first t
 lower t (first u) = first (min t u)
 
-unfoldable pub leastIn : List Change → Least → Least
-leastIn [] l = l
-leastIn (c ∷ cs) l = lower c.time (leastIn cs l)
+unfoldable pub least_in : List Change → Least → Least
+least_in [] l = l
+least_in (c ∷ cs) l = lower c.time (least_in cs l)
 
 unfoldable pub least : Pending → Least
 least [] = nothing
-least (cs ∷ p) = leastIn cs (least p)
+least (cs ∷ p) = least_in cs (least p)
 
 -- EXAMPLES
 
@@ -92,14 +92,14 @@ unfolding post before
 P10 = refl
 
 -- at 3 signal 0 becomes true
-values-at-3 : valuesAt 3 (false ∷ false ∷ []) ((change 3 true ∷ change 5 false ∷ []) ∷ (change 3 false ∷ []) ∷ []) ≡ true ∷ false ∷ []
-unfolding valuesAt taken
-values-at-3 = refl
+values_at_3 : values_at 3 (false ∷ false ∷ []) ((change 3 true ∷ change 5 false ∷ []) ∷ (change 3 false ∷ []) ∷ []) ≡ true ∷ false ∷ []
+unfolding values_at taken
+values_at_3 = refl
 
-kept-at-3 : map (kept 3) ((change 3 true ∷ change 5 false ∷ []) ∷ (change 3 false ∷ []) ∷ []) ≡ (change 5 false ∷ []) ∷ [] ∷ []
+kept_at_3 : map (kept 3) ((change 3 true ∷ change 5 false ∷ []) ∷ (change 3 false ∷ []) ∷ []) ≡ (change 5 false ∷ []) ∷ [] ∷ []
 unfolding kept
-kept-at-3 = refl
+kept_at_3 = refl
 
-least-4 : least ((change 5 true ∷ []) ∷ (change 4 true ∷ change 6 true ∷ []) ∷ []) ≡ first 4
-unfolding least leastIn
-least-4 = refl
+least_4 : least ((change 5 true ∷ []) ∷ (change 4 true ∷ change 6 true ∷ []) ∷ []) ≡ first 4
+unfolding least least_in
+least_4 = refl

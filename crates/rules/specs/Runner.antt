@@ -36,7 +36,7 @@ joined [] vs now awake p so = gives so
 joined (r ∷ rs) vs now awake p so = join r (awake r.wakes) vs now p so then (λ a. joined rs vs now awake p a)
 
 -- the process drives signal 0: a change that it removed is gone, and one of signal 1 stays
-one-driver : over (λ k. eqb k 0) ((change 3 true ∷ []) ∷ [] ∷ []) ((change 8 true ∷ []) ∷ (change 9 true ∷ []) ∷ [])
+one_driver : over (λ k. eqb k 0) ((change 3 true ∷ []) ∷ [] ∷ []) ((change 8 true ∷ []) ∷ (change 9 true ∷ []) ∷ [])
     ≡ (change 3 true ∷ []) ∷ (change 9 true ∷ []) ∷ []
 unfolding over
-one-driver = refl
+one_driver = refl

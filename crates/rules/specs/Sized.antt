@@ -2,7 +2,7 @@
 use Rattle.std.specs.Prelude.{ℕ, ◌+◌, ◌≤◌, ◌<◌, max, ◌≡◌, refl, true, List, [], ◌∷◌, length, get_or}
 use Rattle.syntax.specs.Circuit.{AND, Formula, signal, constant, negated, combined, Actions, done, assign, branch, null, Activity, Circuit}
 use Rattle.words.specs.Unit.{longest}
-use Rattle.rules.specs.Sizes.{mostSignals, mostProcesses, mostInstructions, mostOperands}
+use Rattle.rules.specs.Sizes.{most_signals, most_processes, most_instructions, most_operands}
 use Rattle.rules.specs.Formulas.{size}
 use Rattle.rules.specs.Statements.{assigns}
 
@@ -34,8 +34,8 @@ Known n (combined o a b) = Known n a × Known n b
 -- in statements too, delays keep their size, and so do operands
 unfoldable pub Keeps : ℕ → Actions → Type 0
 Keeps n done = Unit {0}
-Keeps n (assign k e delay rest) = (k < n) × (delay ≤ longest) × (operands e ≤ mostOperands) × Known n e × Keeps n rest
-Keeps n (branch e first second rest) = (operands e ≤ mostOperands) × Known n e × Keeps n first × Keeps n second × Keeps n rest
+Keeps n (assign k e delay rest) = (k < n) × (delay ≤ longest) × (operands e ≤ most_operands) × Known n e × Keeps n rest
+Keeps n (branch e first second rest) = (operands e ≤ most_operands) × Known n e × Keeps n first × Keeps n second × Keeps n rest
 Keeps n (null rest) = Keeps n rest
 
 unfoldable pub Listed : ℕ → List ℕ → Type 0
@@ -46,9 +46,9 @@ abbrev pub idle : Activity
 idle = record { wakes = []; body = done }
 
 pub record Sized (c : Circuit) : Type 0 where
-  pub fewSignals : length c.initial ≤ mostSignals
-  pub fewProcesses : length c.processes ≤ mostProcesses
-  pub fewInstructions : total c.processes ≤ mostInstructions
+  pub few_signals : length c.initial ≤ most_signals
+  pub few_processes : length c.processes ≤ most_processes
+  pub few_instructions : total c.processes ≤ most_instructions
   pub listed : (p : ℕ) → p < length c.processes → Listed (length c.initial) (get_or c.processes p idle).wakes
   pub keeps : (p : ℕ) → p < length c.processes → Keeps (length c.initial) (get_or c.processes p idle).body
   pub alone : (p q k : ℕ) → p < length c.processes → q < length c.processes
@@ -59,6 +59,6 @@ three-operands : operands (combined AND (signal 0) (combined AND (signal 1) (sig
 unfolding operands
 three-operands = refl
 
-five-instructions : instructions (branch (signal 0) (assign 1 (constant true) 0 done) done done) ≡ 5
+five_instructions : instructions (branch (signal 0) (assign 1 (constant true) 0 done) done done) ≡ 5
 unfolding instructions size
-five-instructions = refl
+five_instructions = refl

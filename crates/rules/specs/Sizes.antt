@@ -2,27 +2,27 @@
 -- Assumes nothing: these are definitions.
 use Rattle.std.specs.Prelude.{ℕ}
 
-abbrev pub mostSignals : ℕ
-mostSignals = 64
+abbrev pub most_signals : ℕ
+most_signals = 64
 
-abbrev pub mostProcesses : ℕ
-mostProcesses = 64
+abbrev pub most_processes : ℕ
+most_processes = 64
 
-abbrev pub mostInstructions : ℕ
-mostInstructions = 4096
+abbrev pub most_instructions : ℕ
+most_instructions = 4096
 
 -- pending changes per signal
-abbrev pub mostPending : ℕ
-mostPending = 16
+abbrev pub most_pending : ℕ
+most_pending = 16
 
 -- cycles at one time
-abbrev pub mostCycles : ℕ
-mostCycles = 1000
+abbrev pub most_cycles : ℕ
+most_cycles = 1000
 
 -- operands of a process at once
-abbrev pub mostOperands : ℕ
-mostOperands = 34
+abbrev pub most_operands : ℕ
+most_operands = 34
 
 -- bytes of an output buffer
-abbrev pub bufferBytes : ℕ
-bufferBytes = 4096
+abbrev pub buffer_bytes : ℕ
+buffer_bytes = 4096

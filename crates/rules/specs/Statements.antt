@@ -42,16 +42,16 @@ means a =
     }
 
 -- `if true then q <= transport not q after 3 ns; end if;` run at 5 ns: 6 steps
-if-true : after (false ∷ []) 5000000 (branch (constant true) (assign 0 (negated (signal 0)) 3000000 done) done done) ([] ∷ [])
+if_true : after (false ∷ []) 5000000 (branch (constant true) (assign 0 (negated (signal 0)) 3000000 done) done done) ([] ∷ [])
     ≡ gives ((change 8000000 true ∷ []) ∷ [])
 unfolding after post before value
-if-true = refl
+if_true = refl
 
-if-true-steps : steps (false ∷ []) (branch (constant true) (assign 0 (negated (signal 0)) 3000000 done) done done) ≡ 6
+if_true_steps : steps (false ∷ []) (branch (constant true) (assign 0 (negated (signal 0)) 3000000 done) done done) ≡ 6
 unfolding steps value size
-if-true-steps = refl
+if_true_steps = refl
 
 -- with `false` it runs the second arm, which is missing, and skips nothing: 2 steps
-if-false-steps : steps (false ∷ []) (branch (constant false) (assign 0 (negated (signal 0)) 3000000 done) done done) ≡ 2
+if_false_steps : steps (false ∷ []) (branch (constant false) (assign 0 (negated (signal 0)) 3000000 done) done done) ≡ 2
 unfolding steps value size
-if-false-steps = refl
+if_false_steps = refl

@@ -8,7 +8,7 @@ use Rattle.rules.specs.Calls.{refused, start, advance}
 use Rattle.table.specs.Table.{runners}
 use Rattle.layout.specs.TableWords.{FitTableWords}
 use Rattle.layout.specs.SessionWords.{FitSessionWords}
-use Rattle.layout.proofs.Tables.{decodeTable}
+use Rattle.layout.proofs.Tables.{decode_table}
 use Rattle.machine.proofs.Fetching.{held, fits}
 use Rattle.session.specs.declared.Answer.{Answer}
 use Rattle.session.specs.declared.Answer.TheVariants.{Refused}
@@ -17,7 +17,7 @@ use Rattle.run.specs.Lent as lent
 
 -- fit words are fit with the table that they are read as
 abbrev pub own-fit : (tb : List ℕ) → FitTableWords tb → FitTableWords tb
-own-fit tb f = record { table = decodeTable tb; holds = held tb f; fit = fits tb f }
+own-fit tb f = record { table = decode_table tb; holds = held tb f; fit = fits tb f }
 
 module _ (tb ws bs : List ℕ) where
   pub short-table : length tb < 8387 → LongEnough tb ws bs → ⊥
@@ -57,7 +57,7 @@ module _ (tb ws bs : List ℕ) where
 
     pub advances-unfit-session : LongEnough tb ws bs → stop ≤ 1000000000000000000 → (f : FitTableWords tb) → (FitSessionWords f.table ws → ⊥)
         → Advances tb ws bs stop (Refused 14) ws bs
-    advances-unfit-session l h f n = record { says = refused 14; due = lent.AdvanceDue.unfitSession l h f n; gives = gives-number 14 }
+    advances-unfit-session l h f n = record { says = refused 14; due = lent.AdvanceDue.unfit_session l h f n; gives = gives-number 14 }
 
     pub advances-runs : (r : Answer) (us cs : List ℕ) → LongEnough tb ws bs → stop ≤ 1000000000000000000 → (f : FitTableWords tb) (s : FitSessionWords f.table ws)
         → Gives (advance (runners f.table) stop s.session) ws bs r us cs → Advances tb ws bs stop r us cs

@@ -6,17 +6,17 @@ use native.Mathlib.Omega.{arith}
 use lib.ListN.{length}
 use lib.Seq.{sets}
 use Rattle.rules.specs.Session.{FitSession}
-use Rattle.rules.specs.Calls.{refused, quiet, stopReached, moved, start, advance}
+use Rattle.rules.specs.Calls.{refused, quiet, stop_reached, moved, start, advance}
 use Rattle.rules.specs.Calls as calls
 use Rattle.table.specs.Table.{runners}
 use Rattle.layout.specs.TableWords.{FitTableWords}
-use Rattle.layout.specs.SessionWords.{sessionWords, FitSessionWords}
-use Rattle.layout.proofs.Tables.{decodeTable, table-of-fit-words}
-use Rattle.layout.proofs.Sessions.{session-of-fit-words}
+use Rattle.layout.specs.SessionWords.{session_words, FitSessionWords}
+use Rattle.layout.proofs.Tables.{decode_table, table_of_fit_words}
+use Rattle.layout.proofs.Sessions.{session_of_fit_words}
 use Rattle.cells.specs.Cells.{values, FitFor}
-use Rattle.machine.specs.Inside.Steps.{signalsOf}
+use Rattle.machine.specs.Inside.Steps.{signals_of}
 use Rattle.machine.proofs.Fetching.{held, fits}
-use Rattle.cycles.specs.Inside.Turns.{sessionOf}
+use Rattle.cycles.specs.Inside.Turns.{session_of}
 use Rattle.session.specs.Inside.Goings.{GoesAs}
 use Rattle.session.specs.declared.Answer.{Answer}
 use Rattle.session.specs.declared.Answer.TheVariants.{Refused, Quiet, StopReached, Moves}
@@ -35,7 +35,7 @@ module _ (n : ℕ) (cells words out left after : List ℕ) where
   still : (o : calls.Answer) (r : Answer) → Still r → GoesAs o n cells out r left after → Gives o words out r words after
   still (refused x) r s g = record { answer = g.answer; session = refl; bytes = g.bytes }
   still quiet r s g = record { answer = g.answer; session = refl; bytes = g.bytes }
-  still stopReached r s g = record { answer = g.answer; session = refl; bytes = g.bytes }
+  still stop_reached r s g = record { answer = g.answer; session = refl; bytes = g.bytes }
   still (moved m) r s g = absurd (subst Still g.answer s)
 
   pub gives-refused : (o : calls.Answer) (x : ℕ) → GoesAs o n cells out (Refused x) left after → Gives o words out (Refused x) words after
@@ -54,7 +54,7 @@ module _ (n : ℕ) (cells words out left after : List ℕ) where
   moved_fit : (o : calls.Answer) (b t c s : ℕ) → GoesAs o n cells out (Moves b t c s) left after → FitFor n left
   moved_fit (refused x) b t c s g = absurd (no_move b t c s x g.answer)
   moved_fit quiet b t c s g = let e = g.answer in let z : ◌≡◌ {A = ℕ} 0 1 = cc in absurd (omega arith)
-  moved_fit stopReached b t c s g = let e = g.answer in let z : ◌≡◌ {A = ℕ} 0 1 = cc in absurd (omega arith)
+  moved_fit stop_reached b t c s g = let e = g.answer in let z : ◌≡◌ {A = ℕ} 0 1 = cc in absurd (omega arith)
   moved_fit (moved m) b t c s g = g.session.1
 
   pub moved-long : (o : calls.Answer) (b t c s : ℕ) → GoesAs o n cells out (Moves b t c s) left after → length left ≡ 1152
@@ -64,7 +64,7 @@ module _ (n : ℕ) (cells words out left after : List ℕ) where
       → GoesAs o n cells out (Moves b t c s) left after → Gives o words out (Moves b t c s) stored after
   gives_moved (refused x) b t c s k stored d e g = absurd (no_move b t c s x g.answer)
   gives_moved quiet b t c s k stored d e g = let q = g.answer in let z : ◌≡◌ {A = ℕ} 0 1 = cc in absurd (omega arith)
-  gives_moved stopReached b t c s k stored d e g = let q = g.answer in let z : ◌≡◌ {A = ℕ} 0 1 = cc in absurd (omega arith)
+  gives_moved stop_reached b t c s k stored d e g = let q = g.answer in let z : ◌≡◌ {A = ℕ} 0 1 = cc in absurd (omega arith)
   gives_moved (moved m) b t c s k stored d e g =
       let q = g.answer in
       let same : t ≡ m.session.time = cc in
@@ -73,47 +73,47 @@ module _ (n : ℕ) (cells words out left after : List ℕ) where
         session =
             e
             ∙ ap (λ l. sets words 0 l)
-            (ap (λ i. i ∷ t ∷ left) d ∙ words_are n t left g.session.1 ∙ ap (λ u. sessionWords (sessionOf u n left)) same ∙ ap sessionWords (sym g.session.0));
+            (ap (λ i. i ∷ t ∷ left) d ∙ words_are n t left g.session.1 ∙ ap (λ u. session_words (session_of u n left)) same ∙ ap session_words (sym g.session.0));
         bytes = g.bytes;
       }
 
 -- THE TABLE AND THE SESSION OF LENT WORDS
 
-pub for-table : (tb : List ℕ) (f : FitTableWords tb) (words out : List ℕ) (r : Answer) (left after : List ℕ)
-    → Gives (start (runners (decodeTable tb)) (decodeTable tb).initial) words out r left after
+pub for_table : (tb : List ℕ) (f : FitTableWords tb) (words out : List ℕ) (r : Answer) (left after : List ℕ)
+    → Gives (start (runners (decode_table tb)) (decode_table tb).initial) words out r left after
     → Gives (start (runners f.table) f.table.initial) words out r left after
-for-table tb f words out r left after g =
-    subst (λ t. Gives (start (runners t) t.initial) words out r left after) (sym (table-of-fit-words tb f)) g
+for_table tb f words out r left after g =
+    subst (λ t. Gives (start (runners t) t.initial) words out r left after) (sym (table_of_fit_words tb f)) g
 
-module _ (tb words : List ℕ) (table : FitTableWords tb) (fit : FitSessionWords (decodeTable tb) words) (cells : List ℕ) (ld : Loaded words 1152 cells) where
+module _ (tb words : List ℕ) (table : FitTableWords tb) (fit : FitSessionWords (decode_table tb) words) (cells : List ℕ) (ld : Loaded words 1152 cells) where
   abbrev n : ℕ
-  n = signalsOf tb
+  n = signals_of tb
 
   few : n ≤ 64
-  few = omega (arith, (held tb table).signals, (fits tb table).fewSignals)
+  few = omega (arith, (held tb table).signals, (fits tb table).few_signals)
 
-  its-fit : FitSession (runners (decodeTable tb)) n fit.session
-  its-fit = subst (λ m. FitSession (runners (decodeTable tb)) m fit.session) (sym (held tb table).signals) fit.fit
+  its_fit : FitSession (runners (decode_table tb)) n fit.session
+  its_fit = subst (λ m. FitSession (runners (decode_table tb)) m fit.session) (sym (held tb table).signals) fit.fit
 
-  pub loaded-fit : FitFor n cells
-  loaded-fit = cells_fit (decodeTable tb) n few words fit.session fit.holds its-fit cells ld
+  pub loaded_fit : FitFor n cells
+  loaded_fit = cells_fit (decode_table tb) n few words fit.session fit.holds its_fit cells ld
 
-  session-is : sessionOf fit.session.time n cells ≡ fit.session
-  session-is =
-      let v = values-here (decodeTable tb) n few words fit.session fit.holds its-fit cells ld in
-      let p = pendings-here (decodeTable tb) n few words fit.session fit.holds its-fit cells ld in
+  session_is : session_of fit.session.time n cells ≡ fit.session
+  session_is =
+      let v = values-here (decode_table tb) n few words fit.session fit.holds its_fit cells ld in
+      let p = pendings-here (decode_table tb) n few words fit.session fit.holds its_fit cells ld in
       λ i. record { time = fit.session.time; values = v i; pending = p i }
 
-  abbrev pub its-time : ℕ
-  its-time = fit.session.time
+  abbrev pub its_time : ℕ
+  its_time = fit.session.time
 
-  pub for-session : (f : FitTableWords tb) (s : FitSessionWords f.table words) (stop : ℕ) (out : List ℕ) (r : Answer) (left after : List ℕ)
-      → Gives (advance (runners (decodeTable tb)) stop (sessionOf its-time n cells)) words out r left after
+  pub for_session : (f : FitTableWords tb) (s : FitSessionWords f.table words) (stop : ℕ) (out : List ℕ) (r : Answer) (left after : List ℕ)
+      → Gives (advance (runners (decode_table tb)) stop (session_of its_time n cells)) words out r left after
       → Gives (advance (runners f.table) stop s.session) words out r left after
-  for-session f s stop out r left after g =
-      let t : f.table ≡ decodeTable tb = table-of-fit-words tb f in
-      let small : length f.table.initial ≤ 64 = f.fit.fewSignals in
-      let smaller : length (decodeTable tb).initial ≤ 64 = (fits tb table).fewSignals in
-      let u : s.session ≡ fit.session = session-of-fit-words f.table words small s ∙ sym (session-of-fit-words (decodeTable tb) words smaller fit) in
+  for_session f s stop out r left after g =
+      let t : f.table ≡ decode_table tb = table_of_fit_words tb f in
+      let small : length f.table.initial ≤ 64 = f.fit.few_signals in
+      let smaller : length (decode_table tb).initial ≤ 64 = (fits tb table).few_signals in
+      let u : s.session ≡ fit.session = session_of_fit_words f.table words small s ∙ sym (session_of_fit_words (decode_table tb) words smaller fit) in
       subst (λ x. Gives (advance (runners x) stop s.session) words out r left after) (sym t)
-      (subst (λ x. Gives (advance (runners (decodeTable tb)) stop x) words out r left after) (session-is ∙ sym u) g)
+      (subst (λ x. Gives (advance (runners (decode_table tb)) stop x) words out r left after) (session_is ∙ sym u) g)

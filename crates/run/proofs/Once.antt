@@ -9,16 +9,16 @@ use Rattle.rules.specs.Session.{Session}
 use Rattle.table.specs.Table.{Table, runners}
 use Rattle.layout.specs.TableWords.{FitTableWords}
 use Rattle.layout.specs.SessionWords.{FitSessionWords}
-use Rattle.layout.proofs.Tables.{table-of-fit-words}
-use Rattle.layout.proofs.Sessions.{session-of-fit-words}
+use Rattle.layout.proofs.Tables.{table_of_fit_words}
+use Rattle.layout.proofs.Sessions.{session_of_fit_words}
 use Rattle.session.specs.Answers.{answer_of, outAfter}
 use Rattle.session.specs.declared.Answer.{Answer}
-use Rattle.run.specs.Lent.{wordsAfter, StartDue, AdvanceDue, Starts, Advances}
+use Rattle.run.specs.Lent.{words_after, StartDue, AdvanceDue, Starts, Advances}
 use Rattle.run.specs.Lent as lent
 
 module _ (tb ws bs : List ℕ) where
-  same-table : (f g : FitTableWords tb) → f.table ≡ g.table
-  same-table f g = table-of-fit-words tb f ∙ sym (table-of-fit-words tb g)
+  same_table : (f g : FitTableWords tb) → f.table ≡ g.table
+  same_table f g = table_of_fit_words tb f ∙ sym (table_of_fit_words tb g)
 
   pub start-once : (o p : calls.Answer) → StartDue tb ws bs o → StartDue tb ws bs p → o ≡ p
   start-once o p (lent.StartDue.short n) (lent.StartDue.short m) = refl
@@ -30,39 +30,39 @@ module _ (tb ws bs : List ℕ) where
   start-once o p (lent.StartDue.runs l f) (lent.StartDue.short m) = absurd (m l)
   start-once o p (lent.StartDue.runs l f) (lent.StartDue.unfit k m) = absurd (m f)
   start-once o p (lent.StartDue.runs l f) (lent.StartDue.runs k g) =
-      ap (λ (t : Table). start (runners t) t.initial) (same-table f g)
+      ap (λ (t : Table). start (runners t) t.initial) (same_table f g)
 
   pub advance-once : (stop : ℕ) (o p : calls.Answer) → AdvanceDue tb ws bs stop o → AdvanceDue tb ws bs stop p → o ≡ p
   advance-once stop o p (lent.AdvanceDue.short n) (lent.AdvanceDue.short m) = refl
   advance-once stop o p (lent.AdvanceDue.short n) (lent.AdvanceDue.late l g) = absurd (n l)
   advance-once stop o p (lent.AdvanceDue.short n) (lent.AdvanceDue.unfit l g m) = absurd (n l)
-  advance-once stop o p (lent.AdvanceDue.short n) (lent.AdvanceDue.unfitSession l g f m) = absurd (n l)
+  advance-once stop o p (lent.AdvanceDue.short n) (lent.AdvanceDue.unfit_session l g f m) = absurd (n l)
   advance-once stop o p (lent.AdvanceDue.short n) (lent.AdvanceDue.runs l g f s) = absurd (n l)
   advance-once stop o p (lent.AdvanceDue.late k h) (lent.AdvanceDue.short m) = absurd (m k)
   advance-once stop o p (lent.AdvanceDue.late k h) (lent.AdvanceDue.late l g) = refl
   advance-once stop o p (lent.AdvanceDue.late k h) (lent.AdvanceDue.unfit l g m) = absurd (omega arith)
-  advance-once stop o p (lent.AdvanceDue.late k h) (lent.AdvanceDue.unfitSession l g f m) = absurd (omega arith)
+  advance-once stop o p (lent.AdvanceDue.late k h) (lent.AdvanceDue.unfit_session l g f m) = absurd (omega arith)
   advance-once stop o p (lent.AdvanceDue.late k h) (lent.AdvanceDue.runs l g f s) = absurd (omega arith)
   advance-once stop o p (lent.AdvanceDue.unfit k h n) (lent.AdvanceDue.short m) = absurd (m k)
   advance-once stop o p (lent.AdvanceDue.unfit k h n) (lent.AdvanceDue.late l g) = absurd (omega arith)
   advance-once stop o p (lent.AdvanceDue.unfit k h n) (lent.AdvanceDue.unfit l g m) = refl
-  advance-once stop o p (lent.AdvanceDue.unfit k h n) (lent.AdvanceDue.unfitSession l g f m) = absurd (n f)
+  advance-once stop o p (lent.AdvanceDue.unfit k h n) (lent.AdvanceDue.unfit_session l g f m) = absurd (n f)
   advance-once stop o p (lent.AdvanceDue.unfit k h n) (lent.AdvanceDue.runs l g f s) = absurd (n f)
-  advance-once stop o p (lent.AdvanceDue.unfitSession k h e n) (lent.AdvanceDue.short m) = absurd (m k)
-  advance-once stop o p (lent.AdvanceDue.unfitSession k h e n) (lent.AdvanceDue.late l g) = absurd (omega arith)
-  advance-once stop o p (lent.AdvanceDue.unfitSession k h e n) (lent.AdvanceDue.unfit l g m) = absurd (m e)
-  advance-once stop o p (lent.AdvanceDue.unfitSession k h e n) (lent.AdvanceDue.unfitSession l g f m) = refl
-  advance-once stop o p (lent.AdvanceDue.unfitSession k h e n) (lent.AdvanceDue.runs l g f s) =
-      absurd (n (subst (λ t. FitSessionWords t ws) (same-table f e) s))
+  advance-once stop o p (lent.AdvanceDue.unfit_session k h e n) (lent.AdvanceDue.short m) = absurd (m k)
+  advance-once stop o p (lent.AdvanceDue.unfit_session k h e n) (lent.AdvanceDue.late l g) = absurd (omega arith)
+  advance-once stop o p (lent.AdvanceDue.unfit_session k h e n) (lent.AdvanceDue.unfit l g m) = absurd (m e)
+  advance-once stop o p (lent.AdvanceDue.unfit_session k h e n) (lent.AdvanceDue.unfit_session l g f m) = refl
+  advance-once stop o p (lent.AdvanceDue.unfit_session k h e n) (lent.AdvanceDue.runs l g f s) =
+      absurd (n (subst (λ t. FitSessionWords t ws) (same_table f e) s))
   advance-once stop o p (lent.AdvanceDue.runs k h e u) (lent.AdvanceDue.short m) = absurd (m k)
   advance-once stop o p (lent.AdvanceDue.runs k h e u) (lent.AdvanceDue.late l g) = absurd (omega arith)
   advance-once stop o p (lent.AdvanceDue.runs k h e u) (lent.AdvanceDue.unfit l g m) = absurd (m e)
-  advance-once stop o p (lent.AdvanceDue.runs k h e u) (lent.AdvanceDue.unfitSession l g f m) =
-      absurd (m (subst (λ t. FitSessionWords t ws) (same-table e f) u))
+  advance-once stop o p (lent.AdvanceDue.runs k h e u) (lent.AdvanceDue.unfit_session l g f m) =
+      absurd (m (subst (λ t. FitSessionWords t ws) (same_table e f) u))
   advance-once stop o p (lent.AdvanceDue.runs k h e u) (lent.AdvanceDue.runs l g f s) =
-      ap (λ (t : Table). advance (runners t) stop u.session) (same-table e f)
+      ap (λ (t : Table). advance (runners t) stop u.session) (same_table e f)
       ∙ ap (λ (x : Session). advance (runners f.table) stop x)
-      (session-of-fit-words e.table ws e.fit.fewSignals u ∙ sym (session-of-fit-words f.table ws f.fit.fewSignals s))
+      (session_of_fit_words e.table ws e.fit.few_signals u ∙ sym (session_of_fit_words f.table ws f.fit.few_signals s))
 
 -- the theorems: what a call answers, and every word and byte that it leaves
 pub record Same (r q : Answer) (ws vs bs cs : List ℕ) : Type 0 where
@@ -70,21 +70,21 @@ pub record Same (r q : Answer) (ws vs bs cs : List ℕ) : Type 0 where
   pub session : ws ≡ vs
   pub bytes : bs ≡ cs
 
-pub one-start : (tb ws bs : List ℕ) (r q : Answer) (us vs cs ds : List ℕ) → Starts tb ws bs r us cs → Starts tb ws bs q vs ds → Same r q us vs cs ds
-one-start tb ws bs r q us vs cs ds a b =
+pub one_start : (tb ws bs : List ℕ) (r q : Answer) (us vs cs ds : List ℕ) → Starts tb ws bs r us cs → Starts tb ws bs q vs ds → Same r q us vs cs ds
+one_start tb ws bs r q us vs cs ds a b =
     let e : a.says ≡ b.says = start-once tb ws bs a.says b.says a.due b.due in
     record {
       answer = a.gives.answer ∙ ap answer_of e ∙ sym b.gives.answer;
-      session = a.gives.session ∙ ap (λ o. wordsAfter o ws) e ∙ sym b.gives.session;
+      session = a.gives.session ∙ ap (λ o. words_after o ws) e ∙ sym b.gives.session;
       bytes = a.gives.bytes ∙ ap (λ o. outAfter o bs) e ∙ sym b.gives.bytes;
     }
 
-pub one-advance : (tb ws bs : List ℕ) (stop : ℕ) (r q : Answer) (us vs cs ds : List ℕ) → Advances tb ws bs stop r us cs → Advances tb ws bs stop q vs ds
+pub one_advance : (tb ws bs : List ℕ) (stop : ℕ) (r q : Answer) (us vs cs ds : List ℕ) → Advances tb ws bs stop r us cs → Advances tb ws bs stop q vs ds
     → Same r q us vs cs ds
-one-advance tb ws bs stop r q us vs cs ds a b =
+one_advance tb ws bs stop r q us vs cs ds a b =
     let e : a.says ≡ b.says = advance-once tb ws bs stop a.says b.says a.due b.due in
     record {
       answer = a.gives.answer ∙ ap answer_of e ∙ sym b.gives.answer;
-      session = a.gives.session ∙ ap (λ o. wordsAfter o ws) e ∙ sym b.gives.session;
+      session = a.gives.session ∙ ap (λ o. words_after o ws) e ∙ sym b.gives.session;
       bytes = a.gives.bytes ∙ ap (λ o. outAfter o bs) e ∙ sym b.gives.bytes;
     }

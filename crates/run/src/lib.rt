@@ -5,7 +5,7 @@ ghost use Rattle.rules.specs.Calls as calls;
 ghost use Rattle.table.specs.Table.{runners};
 ghost use Rattle.layout.specs.TableWords.{FitTableWords};
 ghost use Rattle.layout.specs.SessionWords.{FitSessionWords};
-ghost use Rattle.layout.proofs.Tables.{decodeTable};
+ghost use Rattle.layout.proofs.Tables.{decode_table};
 ghost use Rattle.run.specs.Lent.{Gives, Starts, Advances};
 ghost use Rattle.run.specs.Inside.Copies.{Loaded};
 
@@ -77,7 +77,7 @@ pub fn start_fit(table: &[u64], words: &mut [u64], out: &mut [u8]) -> Answer
 // An advance, where the table and the session are known to be fit.
 pub fn advance_fit(table: &[u64], words: &mut [u64], stop: u64, out: &mut [u8]) -> Answer
     requires fit_table_words { FitTableWords table.now }
-    requires fit_session_words { FitSessionWords (decodeTable table.now) words.old }
+    requires fit_session_words { FitSessionWords (decode_table table.now) words.old }
     requires stop_bound { stop ≤ 1000000000000000000 }
     requires in_bounds { 4096 ≤ length out.old }
     ensures { (f : FitTableWords table.now) (s : FitSessionWords f.table words.old) → Gives (calls.advance (runners f.table) stop s.session) words.old out.old result words.new out.new }

@@ -2,7 +2,7 @@
 ghost use Rattle.std.specs.Prelude.{◌≤◌, length};
 ghost use Rattle.layout.specs.TableWords.{FitTableWords};
 ghost use Rattle.cells.specs.Cells.{FitFor};
-ghost use Rattle.machine.specs.Inside.Steps.{signalsOf};
+ghost use Rattle.machine.specs.Inside.Steps.{signals_of};
 ghost use Rattle.machine.specs.Inside.Relays.{Relayed};
 
 use session::Answer;
@@ -54,7 +54,7 @@ pub extern "C" fn run_bench_forward(
 ) -> u64
     requires fit_table_words { FitTableWords table.now }
     requires relayed { Relayed table.now relays.now }
-    requires fit_for { FitFor (signalsOf table.now) cells.old }
+    requires fit_for { FitFor (signals_of table.now) cells.old }
     requires stop_bound { stop ≤ 1000000000000000000 }
     requires in_bounds { 4096 ≤ length out.old }
 {

@@ -22,8 +22,8 @@ ones-set (suc n) (suc k) l =
 pub all_none : (n : ℕ) → n ≡ 0 → AllOf n 0
 all_none n e = record { small = pow_pos n; set = λ k l. absurd (omega arith) }
 
-pub all-some : (n : ℕ) → n ≤ 64 → AllOf n (18446744073709551615 / 2 ^ (64 - n))
-all-some n l =
+pub all_some : (n : ℕ) → n ≤ 64 → AllOf n (18446744073709551615 / 2 ^ (64 - n))
+all_some n l =
     let q : n + (64 - n) ≡ 64 = omega arith in
     let whole : 18446744073709551615 ≡ (2 ^ n - 1) * 2 ^ (64 - n) + (2 ^ (64 - n) - 1) = sym (ap (λ m. 2 ^ m - 1) q) ∙ ones_split n (64 - n) in
     let e : 18446744073709551615 / 2 ^ (64 - n) ≡ 2 ^ n - 1 = ap (λ w. w / 2 ^ (64 - n)) whole ∙ high (2 ^ n - 1) (64 - n) (ones_lt (64 - n)) in

@@ -6,29 +6,29 @@ use borrow.Author.Tests.{lt-ltb, le-ltb}
 use Rattle.rules.specs.Outcome.{refuses, gives}
 use Rattle.rules.specs.Pending.{nothing}
 use Rattle.rules.specs.Runner.{Runner}
-use Rattle.rules.specs.Dump.{advanceBytes}
-use Rattle.rules.specs.Calls.{refused, quiet, stopReached, moved, answered, cycles, advance}
+use Rattle.rules.specs.Dump.{advance_bytes}
+use Rattle.rules.specs.Calls.{refused, quiet, stop_reached, moved, answered, cycles, advance}
 use Rattle.cells.specs.Cells.{values, pendings, ComesNext}
 use Rattle.cells.specs.declared.Coming.TheVariants.{Nothing, At}
-use Rattle.cycles.specs.Inside.Turns.{sessionOf, progressOf}
+use Rattle.cycles.specs.Inside.Turns.{session_of, progress_of}
 
 module _ (rs : List Runner) (n : ℕ) (cs : List ℕ) (stop was : ℕ) where
-  pub forward-quiet : ComesNext (pendings n cs) Nothing → advance rs stop (sessionOf was n cs) ≡ quiet
+  pub forward-quiet : ComesNext (pendings n cs) Nothing → advance rs stop (session_of was n cs) ≡ quiet
   unfolding advance
   forward-quiet e = rw e
 
   module _ (t word : ℕ) (next : ComesNext (pendings n cs) (At t word)) where
-    pub forward-stop : stop < t → advance rs stop (sessionOf was n cs) ≡ stopReached
+    pub forward-stop : stop < t → advance rs stop (session_of was n cs) ≡ stop_reached
     unfolding advance
     forward-stop l = rw (next.0, lt-ltb stop t l)
 
-    goes : t ≤ stop → advance rs stop (sessionOf was n cs) ≡ answered (advanceBytes t (values n cs)) (cycles rs 1000 t (progressOf was n cs 0 0))
+    goes : t ≤ stop → advance rs stop (session_of was n cs) ≡ answered (advance_bytes t (values n cs)) (cycles rs 1000 t (progress_of was n cs 0 0))
     unfolding advance
     goes l = rw (next.0, le-ltb stop t l)
 
-    pub forward-refused : t ≤ stop → (r : ℕ) → cycles rs 1000 t (progressOf was n cs 0 0) ≡ refuses r → advance rs stop (sessionOf was n cs) ≡ refused r
-    forward-refused l r e = goes l ∙ ap (answered (advanceBytes t (values n cs))) e
+    pub forward-refused : t ≤ stop → (r : ℕ) → cycles rs 1000 t (progress_of was n cs 0 0) ≡ refuses r → advance rs stop (session_of was n cs) ≡ refused r
+    forward-refused l r e = goes l ∙ ap (answered (advance_bytes t (values n cs))) e
 
-    pub forward-moved : t ≤ stop → (c m : ℕ) (fs : List ℕ) → cycles rs 1000 t (progressOf was n cs 0 0) ≡ gives (progressOf t n fs c m)
-        → advance rs stop (sessionOf was n cs) ≡ moved (record { session = sessionOf t n fs; bytes = advanceBytes t (values n cs) (values n fs); cycles = c; steps = m })
-    forward-moved l c m fs e = goes l ∙ ap (answered (advanceBytes t (values n cs))) e
+    pub forward-moved : t ≤ stop → (c m : ℕ) (fs : List ℕ) → cycles rs 1000 t (progress_of was n cs 0 0) ≡ gives (progress_of t n fs c m)
+        → advance rs stop (session_of was n cs) ≡ moved (record { session = session_of t n fs; bytes = advance_bytes t (values n cs) (values n fs); cycles = c; steps = m })
+    forward-moved l c m fs e = goes l ∙ ap (answered (advance_bytes t (values n cs))) e

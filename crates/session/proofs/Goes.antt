@@ -4,10 +4,10 @@ use mathlib.Core.Path.{◌≡◌, refl}
 use mathlib.Core.List.{List}
 use native.Mathlib.Omega.{arith}
 use lib.ListN.{length}
-use Rattle.rules.specs.Calls.{refused, quiet, stopReached, moved}
+use Rattle.rules.specs.Calls.{refused, quiet, stop_reached, moved}
 use Rattle.rules.specs.Calls as calls
 use Rattle.cells.specs.Cells.{FitFor}
-use Rattle.cycles.specs.Inside.Turns.{sessionOf}
+use Rattle.cycles.specs.Inside.Turns.{session_of}
 use Rattle.writing.specs.Inside.Written.{Writes}
 use Rattle.session.specs.Inside.Goings.{GoesAs}
 use Rattle.session.specs.declared.Answer.{Answer}
@@ -20,11 +20,11 @@ module _ (o : calls.Answer) (n : ℕ) (cells out : List ℕ) where
   pub goes-quiet : o ≡ quiet → GoesAs o n cells out Quiet cells out
   goes-quiet e = rw e (record { answer = refl; session = refl; bytes = refl })
 
-  pub goes-stop : o ≡ stopReached → GoesAs o n cells out StopReached cells out
+  pub goes-stop : o ≡ stop_reached → GoesAs o n cells out StopReached cells out
   goes-stop e = rw e (record { answer = refl; session = refl; bytes = refl })
 
   pub goes_moved : (time c steps r : ℕ) (text left after : List ℕ)
-      → o ≡ moved (record { session = sessionOf time n left; bytes = text; cycles = c; steps = steps }) → FitFor n left → Writes out 0 text r after
+      → o ≡ moved (record { session = session_of time n left; bytes = text; cycles = c; steps = steps }) → FitFor n left → Writes out 0 text r after
       → GoesAs o n cells out (Moves r time c steps) left after
   goes_moved time c steps r text left after e fit w =
       let q : r ≡ length text = omega (arith, w.end) in

@@ -5,11 +5,11 @@ use mathlib.Core.Bool.{Bool}
 use mathlib.Core.List.{List}
 use native.Mathlib.Omega.{arith}
 use Rattle.table.specs.Table.{runners}
-use Rattle.layout.proofs.Tables.{decodeTable}
+use Rattle.layout.proofs.Tables.{decode_table}
 use Rattle.cells.specs.Cells.{values, pendings, FitFor, Posted, Due}
-use Rattle.cells.proofs.Columns.{same-values}
+use Rattle.cells.proofs.Columns.{same_values}
 use Rattle.cells.proofs.Dues.{fit-posted}
-use Rattle.machine.specs.Inside.Steps.{signalsOf}
+use Rattle.machine.specs.Inside.Steps.{signals_of}
 use Rattle.machine.specs.declared.Ran.{Ran}
 use Rattle.machine.specs.declared.Ran.TheVariants.{Done, Full}
 use Rattle.cycles.specs.Inside.Turns.{Taken, CyclesAs}
@@ -20,20 +20,20 @@ use Rattle.session.specs.declared.Session.{Session}
 abbrev held : ℕ → ℕ → List ℕ → Session
 held n t cs = record { count = n; time = t; cells = cs }
 
-pub method-posts : (n u : ℕ) (cs : List ℕ) (k t : ℕ) (v b : Bool) (ds : List ℕ) → FitFor n cs → k < n → Posted cs k t v b ds
+pub method_posts : (n u : ℕ) (cs : List ℕ) (k t : ℕ) (v b : Bool) (ds : List ℕ) → FitFor n cs → k < n → Posted cs k t v b ds
     → PostsAs (held n u cs) k t v b (held n u ds)
-method-posts n u cs k t v b ds f l p =
+method_posts n u cs k t v b ds f l p =
     record {
       pending = p.answer n l f.few;
-      values = same-values n cs ds (λ j h. p.values j (omega (arith, f.few)));
+      values = same_values n cs ds (λ j h. p.values j (omega (arith, f.few)));
       time = refl;
       count = refl;
       fit = fit-posted n k cs ds l f t v b p;
     }
 
-module _ (tb : List ℕ) (n u : ℕ) (cs ds : List ℕ) (e : n ≡ signalsOf tb) where
-  pub method-takes : (t w v : ℕ) → Taken cs tb t (signalsOf tb) w v ds → TakesAs (held n u cs) t (held n u ds)
-  method-takes t w v s =
+module _ (tb : List ℕ) (n u : ℕ) (cs ds : List ℕ) (e : n ≡ signals_of tb) where
+  pub method_takes : (t w v : ℕ) → Taken cs tb t (signals_of tb) w v ds → TakesAs (held n u cs) t (held n u ds)
+  method_takes t w v s =
       rw e
       (record {
         pending = new-pending cs tb t w v ds s;
@@ -43,13 +43,13 @@ module _ (tb : List ℕ) (n u : ℕ) (cs ds : List ℕ) (e : n ≡ signalsOf tb)
         fit = s.fit;
       })
 
-  pub method-cycles : (t n₀ : ℕ) (r : Ran) (v : ℕ) → CyclesAs cs tb t n₀ r v ds → CycleAs (runners (decodeTable tb)) (held n u cs) t n₀ r (held n t ds)
-  method-cycles t n₀ (Done steps due) v g = rw e (λ c. (g.ran u c).ran)
-  method-cycles t n₀ Full v g = rw e (λ c. g.ran u c)
+  pub method_cycles : (t n₀ : ℕ) (r : Ran) (v : ℕ) → CyclesAs cs tb t n₀ r v ds → CycleAs (runners (decode_table tb)) (held n u cs) t n₀ r (held n t ds)
+  method_cycles t n₀ (Done steps due) v g = rw e (λ c. (g.ran u c).ran)
+  method_cycles t n₀ Full v g = rw e (λ c. g.ran u c)
 
   -- what is due, for the table's number of signals
-  pub method-due : (word t : ℕ) → Due word t (pendings n cs) → Due word t (pendings (signalsOf tb) cs)
-  method-due word t d = rw e at d
+  pub method_due : (word t : ℕ) → Due word t (pendings n cs) → Due word t (pendings (signals_of tb) cs)
+  method_due word t d = rw e at d
 
-  pub method-fit : FitFor n cs → FitFor (signalsOf tb) cs
-  method-fit f = rw e at f
+  pub method_fit : FitFor n cs → FitFor (signals_of tb) cs
+  method_fit f = rw e at f

@@ -2,7 +2,7 @@
 -- Assumes nothing: these are definitions.
 use Rattle.std.specs.Prelude.{ℕ, ◌≡◌, refl, List, [], ◌∷◌, length}
 use Rattle.std.proofs.lemmas.List.Edits.{sets}
-use Rattle.rules.specs.Calls.{refused, quiet, stopReached, moved}
+use Rattle.rules.specs.Calls.{refused, quiet, stop_reached, moved}
 use Rattle.rules.specs.Calls as calls
 use Rattle.session.specs.declared.Answer.{Answer}
 use Rattle.session.specs.declared.Answer.TheVariants.{Refused, Quiet, StopReached, Moves}
@@ -11,14 +11,14 @@ use Rattle.session.specs.declared.Answer.TheVariants.{Refused, Quiet, StopReache
 abbrev pub answer_of : calls.Answer → Answer
 answer_of (refused r) = Refused r
 answer_of quiet = Quiet
-answer_of stopReached = StopReached
+answer_of stop_reached = StopReached
 answer_of (moved m) = Moves (length m.bytes) m.session.time m.cycles m.steps
 
 -- the output buffer after a call: the bytes that it wrote, from the first place on; those behind them stay
 abbrev pub outAfter : calls.Answer → List ℕ → List ℕ
 outAfter (refused r) out = out
 outAfter quiet out = out
-outAfter stopReached out = out
+outAfter stop_reached out = out
 outAfter (moved m) out = sets out 0 m.bytes
 
 -- refused 16, and nothing is written

@@ -3,13 +3,13 @@ ghost use Rattle.std.specs.Prelude.{◌≡◌, ℕ, ◌≤◌, ◌<◌, length};
 ghost use Rattle.rules.specs.Calls.{start, advance};
 ghost use Rattle.table.specs.Table.{runners};
 ghost use Rattle.layout.specs.TableWords.{FitTableWords};
-ghost use Rattle.layout.proofs.Tables.{decodeTable};
+ghost use Rattle.layout.proofs.Tables.{decode_table};
 ghost use Rattle.cells.specs.Cells.{truth, FitFor, Due};
-ghost use Rattle.machine.specs.Inside.Steps.{signalsOf};
+ghost use Rattle.machine.specs.Inside.Steps.{signals_of};
 ghost use Rattle.machine.specs.Inside.Units.{Planned};
 ghost use Rattle.machine.specs.Inside.Relays.{Relayed};
-ghost use Rattle.cycles.specs.Inside.Turns.{sessionOf};
-ghost use Rattle.session.specs.Sessions.{sessionIn, FitHeld, PostsAs, TakesAs, CycleAs};
+ghost use Rattle.cycles.specs.Inside.Turns.{session_of};
+ghost use Rattle.session.specs.Sessions.{session_in, FitHeld, PostsAs, TakesAs, CycleAs};
 ghost use Rattle.session.specs.Inside.Goings.{GoesAs, Fresh, AllOf};
 
 use cells::Coming;
@@ -70,7 +70,7 @@ pub fn begin(
     requires in_bounds { 4096 ≤ length out.old }
     requires planned { Planned table.now plan.now }
     requires relayed { Relayed table.now relays.now }
-    ensures { GoesAs (start (runners (decodeTable table.now)) (decodeTable table.now).initial) (signalsOf table.now) cells.old out.old result cells.new out.new }
+    ensures { GoesAs (start (runners (decode_table table.now)) (decode_table table.now).initial) (signals_of table.now) cells.old out.old result cells.new out.new }
 {
     let c = fresh(table);
     *cells = c;
@@ -109,12 +109,12 @@ pub fn forward(
     out: &mut [u8],
 ) -> Answer
     requires fit_table_words { FitTableWords table.now }
-    requires fit_for { FitFor (signalsOf table.now) cells.old }
+    requires fit_for { FitFor (signals_of table.now) cells.old }
     requires stop_bound { stop ≤ 1000000000000000000 }
     requires in_bounds { 4096 ≤ length out.old }
     requires planned { Planned table.now plan.now }
     requires relayed { Relayed table.now relays.now }
-    ensures { (was : ℕ) → GoesAs (advance (runners (decodeTable table.now)) stop (sessionOf was (signalsOf table.now) cells.old)) (signalsOf table.now) cells.old out.old result cells.new out.new }
+    ensures { (was : ℕ) → GoesAs (advance (runners (decode_table table.now)) stop (session_of was (signals_of table.now) cells.old)) (signals_of table.now) cells.old out.old result cells.new out.new }
 {
     let count = table[0] as usize;
     match cells::comes_next(cells, count) {
@@ -189,8 +189,8 @@ impl Session {
     pub fn take(mut self, table: &[u64], due: u64, time: u64) -> Took
         requires fit_held { FitHeld self }
         requires fit_table_words { FitTableWords table.now }
-        requires count_value { self.count ≡ signalsOf table.now }
-        requires due { Due due time (sessionIn self).pending }
+        requires count_value { self.count ≡ signals_of table.now }
+        requires due { Due due time (session_in self).pending }
         ensures { TakesAs self time result.session }
     {
         let t = cycles::take_all(&mut self.cells, table, due, time);
@@ -212,13 +212,13 @@ impl Session {
     ) -> Cycled
         requires fit_held { FitHeld self }
         requires fit_table_words { FitTableWords table.now }
-        requires count_value { self.count ≡ signalsOf table.now }
-        requires due { Due due time (sessionIn self).pending }
+        requires count_value { self.count ≡ signals_of table.now }
+        requires due { Due due time (session_in self).pending }
         requires time_bound { time ≤ 1000000000000000000 }
         requires already_bound { already ≤ 900000000000000000 }
         requires planned { Planned table.now plan.now }
         requires relayed { Relayed table.now relays.now }
-        ensures { CycleAs (runners (decodeTable table.now)) self time already result.ran result.session }
+        ensures { CycleAs (runners (decode_table table.now)) self time already result.ran result.session }
     {
         let went = cycles::cycle(&mut self.cells, table, plan, relays, due, time, already);
         let ran = went.ran;

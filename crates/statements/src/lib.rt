@@ -1,10 +1,10 @@
 // Statements. The nesting room falls with each `if`.
 ghost use Rattle.std.specs.Prelude.{◌≡◌, true, List, ℕ, ◌≤◌, length};
-ghost use Rattle.syntax.proofs.Rows.{inThen};
-ghost use Rattle.emission.specs.Inside.Draft.{otherwiseDraft};
+ghost use Rattle.syntax.proofs.Rows.{in_then};
+ghost use Rattle.emission.specs.Inside.Draft.{otherwise_draft};
 ghost use Rattle.look.specs.Inside.Looks.{look_of};
-ghost use Rattle.reading.specs.Inside.Spots.{Forward, endIfOf, starter, Stops};
-ghost use Rattle.reading.specs.Inside.Reading.{Ready, Reads, aStatement, someStatements, closes, finishRoles};
+ghost use Rattle.reading.specs.Inside.Spots.{Forward, end_if_of, starter, Stops};
+ghost use Rattle.reading.specs.Inside.Reading.{Ready, Reads, a_statement, some_statements, closes, finish_roles};
 ghost use Rattle.statements.specs.Inside.Ending.{Ends};
 
 use emission::{aim, emit};
@@ -90,7 +90,7 @@ fn assignment(
 ) -> Spot
     requires ready { Ready 0 text.now p ledger.old }
     requires number_value { (p.number ≡ 0) × (t ≡ look_of text.now p.at) × (t.kind ≡ 108) }
-    ensures { Reads aStatement text.now room p result ledger.old ledger.new table.old table.new × Forward p result }
+    ensures { Reads a_statement text.now room p result ledger.old ledger.new table.old table.new × Forward p result }
 {
     let k = assign(text, ledger, t.start, t.end);
     let here = Spot {
@@ -114,7 +114,7 @@ fn assignment(
 // `end` `if` `;`
 fn end_if(text: &[u8], p: Spot) -> Spot
     requires { p.at ≤ length text.now }
-    ensures { result ≡ endIfOf text.now p }
+    ensures { result ≡ end_if_of text.now p }
 {
     let a = word(text, p, Look::END);
     let b = word(text, a, Look::IF);
@@ -137,7 +137,7 @@ fn starts(kind: usize) -> bool
 #[cycle(conditional_finish_statement_statements)]
 fn finish(text: &[u8], ledger: &mut [u64; 328], table: &mut [u64], p: Spot, room: usize) -> Spot
     requires { Ready 0 text.now p ledger.old × Stops text.now p }
-    ensures { Reads (closes inThen finishRoles otherwiseDraft) text.now room p result ledger.old ledger.new table.old table.new }
+    ensures { Reads (closes in_then finish_roles otherwise_draft) text.now room p result ledger.old ledger.new table.old table.new }
 {
     if p.number != 0 {
         return p;
@@ -166,7 +166,7 @@ fn conditional(
     room: usize,
 ) -> Spot
     requires { Ready 0 text.now p ledger.old × (p.number ≡ 0) × (t ≡ look_of text.now p.at) × (t.kind ≡ 11) }
-    ensures { Reads aStatement text.now room p result ledger.old ledger.new table.old table.new × Forward p result }
+    ensures { Reads a_statement text.now room p result ledger.old ledger.new table.old table.new × Forward p result }
 {
     if room == 0 {
         return Spot {
@@ -213,7 +213,7 @@ fn statement(
     room: usize,
 ) -> Spot
     requires { Ready 0 text.now p ledger.old × (p.number ≡ 0) × (t ≡ look_of text.now p.at) × (starter t.kind ≡ true) }
-    ensures { Reads aStatement text.now room p result ledger.old ledger.new table.old table.new × Forward p result }
+    ensures { Reads a_statement text.now room p result ledger.old ledger.new table.old table.new × Forward p result }
 {
     if t.kind == Look::NAME {
         return assignment(text, ledger, table, p, t, room);
@@ -239,7 +239,7 @@ pub fn statements(
     room: usize,
 ) -> Spot
     requires { Ready 0 text.now first ledger.old }
-    ensures { Reads someStatements text.now room first result ledger.old ledger.new table.old table.new × Stops text.now result }
+    ensures { Reads some_statements text.now room first result ledger.old ledger.new table.old table.new × Stops text.now result }
 {
     let mut p = first;
     while p.number == 0 {

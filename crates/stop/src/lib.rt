@@ -1,6 +1,6 @@
 // The stop words of a program: an integer and a unit, as in a text.
 ghost use Rattle.std.specs.Prelude.{◌≡◌};
-ghost use Rattle.stop.specs.Stop.{unit_of, stopOf};
+ghost use Rattle.stop.specs.Stop.{unit_of, stop_of};
 
 use lexis::run::all_digits;
 use words::integer::time_of;
@@ -53,7 +53,7 @@ pub enum Stop {
 
 // The stop that two argument words say.
 pub fn stop_of(amount: &[u8], unit: &[u8]) -> Stop
-    ensures { result ≡ stopOf amount.now unit.now }
+    ensures { result ≡ stop_of amount.now unit.now }
 {
     if amount.len() == 0 {
         return Stop::Refused;

@@ -21,8 +21,8 @@ called n = name (bytes n)
 
 -- CASE A
 
-abbrev pub tokensA : List Token
-tokensA = fixed ENTITY ∷ called "pair" ∷ fixed IS ∷ fixed END ∷ fixed SEMICOLON
+abbrev pub tokens_a : List Token
+tokens_a = fixed ENTITY ∷ called "pair" ∷ fixed IS ∷ fixed END ∷ fixed SEMICOLON
     ∷ fixed ARCHITECTURE ∷ called "a" ∷ fixed OF ∷ called "pair" ∷ fixed IS
     ∷ fixed SIGNAL ∷ called "q" ∷ fixed COMMA ∷ called "d" ∷ fixed COLON ∷ fixed BOOLEAN ∷ fixed SEMICOLON
     ∷ fixed BEGIN
@@ -34,21 +34,21 @@ tokensA = fixed ENTITY ∷ called "pair" ∷ fixed IS ∷ fixed END ∷ fixed SE
     ∷ fixed END ∷ fixed PROCESS ∷ fixed SEMICOLON
     ∷ fixed END ∷ fixed SEMICOLON ∷ []
 
-abbrev pub treeA : Design
-treeA = design (bytes "pair") false none (bytes "a") (bytes "pair") (declaration (bytes "q") (bytes "d" ∷ []) none ∷ [])
+abbrev pub tree_a : Design
+tree_a = design (bytes "pair") false none (bytes "a") (bytes "pair") (declaration (bytes "q") (bytes "d" ∷ []) none ∷ [])
     (process none (listed (bytes "q") []) false (also (assignment (bytes "q") (expression (negated (named (bytes "q"))) alone) (after 3 Ns)) done) none
     ∷ process none (listed (bytes "q") []) false (also (assignment (bytes "d") (expression (negated (named (bytes "q"))) alone) immediate) done) none ∷ [])
     false none
 
-case-A : read tokensA ≡ accepted treeA
+case_a_lem : read tokens_a ≡ accepted tree_a
 unfolding read dec_le
-case-A = refl
+case_a_lem = refl
 
 -- ONE PROCESS: entity e is end; architecture a of e is begin process (q) begin .. end process; end;
 
 -- its statements begin at token 16
-abbrev statementsIn : List Token → List Token
-statementsIn r = fixed ENTITY ∷ called "e" ∷ fixed IS ∷ fixed END ∷ fixed SEMICOLON ∷ fixed ARCHITECTURE ∷ called "a" ∷ fixed OF ∷ called "e" ∷ fixed IS
+abbrev statements_in : List Token → List Token
+statements_in r = fixed ENTITY ∷ called "e" ∷ fixed IS ∷ fixed END ∷ fixed SEMICOLON ∷ fixed ARCHITECTURE ∷ called "a" ∷ fixed OF ∷ called "e" ∷ fixed IS
     ∷ fixed BEGIN ∷ fixed PROCESS ∷ fixed OPEN ∷ called "q" ∷ fixed CLOSE ∷ fixed BEGIN ∷ r
 
 abbrev rest : List Token
@@ -56,10 +56,10 @@ rest = fixed END ∷ fixed PROCESS ∷ fixed SEMICOLON ∷ fixed END ∷ fixed S
 
 -- q <= transport ..; end process; end; the expression begins at token 19
 abbrev valued : List Token → List Token
-valued r = statementsIn (called "q" ∷ fixed ARROW ∷ fixed TRANSPORT ∷ r)
+valued r = statements_in (called "q" ∷ fixed ARROW ∷ fixed TRANSPORT ∷ r)
 
-abbrev designOf : Statements → Design
-designOf ss = design (bytes "e") false none (bytes "a") (bytes "e") [] (process none (listed (bytes "q") []) false ss none ∷ []) false none
+abbrev design_of : Statements → Design
+design_of ss = design (bytes "e") false none (bytes "a") (bytes "e") [] (process none (listed (bytes "q") []) false ss none ∷ []) false none
 
 -- REFUSAL 3
 
@@ -84,20 +84,20 @@ unfolding read dec_le
 P12 = refl
 
 -- no statement, and neither it nor its end
-least-accepted : read (statementsIn rest) ≡ accepted (designOf done)
+least-accepted : read (statements_in rest) ≡ accepted (design_of done)
 unfolding read dec_le
 least-accepted = refl
 
-cut_short : read (statementsIn (fixed END ∷ fixed PROCESS ∷ fixed SEMICOLON ∷ fixed END ∷ [])) ≡ refused3 20
+cut_short : read (statements_in (fixed END ∷ fixed PROCESS ∷ fixed SEMICOLON ∷ fixed END ∷ [])) ≡ refused3 20
 unfolding read dec_le
 cut_short = refl
 
-too_long : read (statementsIn (fixed END ∷ fixed PROCESS ∷ fixed SEMICOLON ∷ fixed END ∷ fixed SEMICOLON ∷ fixed SEMICOLON ∷ [])) ≡ refused3 21
+too_long_lem : read (statements_in (fixed END ∷ fixed PROCESS ∷ fixed SEMICOLON ∷ fixed END ∷ fixed SEMICOLON ∷ fixed SEMICOLON ∷ [])) ≡ refused3 21
 unfolding read dec_le
-too_long = refl
+too_long_lem = refl
 
 -- a reserved word that is not of the subset
-foreign-word : read (statementsIn (foreign ∷ rest)) ≡ refused3 16
+foreign-word : read (statements_in (foreign ∷ rest)) ≡ refused3 16
 unfolding read dec_le
 foreign-word = refl
 
@@ -107,53 +107,53 @@ abbrev many : ℕ → Token → List Token → List Token
 many zero t r = r
 many (suc n) t r = t ∷ many n t r
 
-abbrev bracketedBy : ℕ → Expression
-bracketedBy zero = expression (plain (named (bytes "q"))) alone
-bracketedBy (suc n) = expression (plain (bracketed (bracketedBy n))) alone
+abbrev bracketed_by : ℕ → Expression
+bracketed_by zero = expression (plain (named (bytes "q"))) alone
+bracketed_by (suc n) = expression (plain (bracketed (bracketed_by n))) alone
 
 -- 32 brackets, and the list's beside them; a 33rd
-brackets-32 : read (valued (many 32 (fixed OPEN) (called "q" ∷ many 32 (fixed CLOSE) (fixed SEMICOLON ∷ rest))))
-    ≡ accepted (designOf (also (assignment (bytes "q") (bracketedBy 32) immediate) done))
+brackets_32 : read (valued (many 32 (fixed OPEN) (called "q" ∷ many 32 (fixed CLOSE) (fixed SEMICOLON ∷ rest))))
+    ≡ accepted (design_of (also (assignment (bytes "q") (bracketed_by 32) immediate) done))
 unfolding read dec_le
-brackets-32 = refl
+brackets_32 = refl
 
-brackets-33 : read (valued (many 33 (fixed OPEN) (called "q" ∷ many 33 (fixed CLOSE) (fixed SEMICOLON ∷ rest)))) ≡ refused4 51
+brackets_33 : read (valued (many 33 (fixed OPEN) (called "q" ∷ many 33 (fixed CLOSE) (fixed SEMICOLON ∷ rest)))) ≡ refused4 51
 unfolding read dec_le
-brackets-33 = refl
+brackets_33 = refl
 
 -- an `if` and 31 brackets in its condition; 32
-if-31 : read (statementsIn (fixed IF ∷ many 31 (fixed OPEN) (called "q" ∷ many 31 (fixed CLOSE) (fixed THEN ∷ fixed END ∷ fixed IF ∷ fixed SEMICOLON ∷ rest))))
-    ≡ accepted (designOf (also (conditional (bracketedBy 31) done missing) done))
+if_31 : read (statements_in (fixed IF ∷ many 31 (fixed OPEN) (called "q" ∷ many 31 (fixed CLOSE) (fixed THEN ∷ fixed END ∷ fixed IF ∷ fixed SEMICOLON ∷ rest))))
+    ≡ accepted (design_of (also (conditional (bracketed_by 31) done missing) done))
 unfolding read dec_le
-if-31 = refl
+if_31 = refl
 
-if-32 : read (statementsIn (fixed IF ∷ many 32 (fixed OPEN) (called "q" ∷ many 32 (fixed CLOSE) (fixed THEN ∷ fixed END ∷ fixed IF ∷ fixed SEMICOLON ∷ rest)))) ≡ refused4 48
+if_32 : read (statements_in (fixed IF ∷ many 32 (fixed OPEN) (called "q" ∷ many 32 (fixed CLOSE) (fixed THEN ∷ fixed END ∷ fixed IF ∷ fixed SEMICOLON ∷ rest)))) ≡ refused4 48
 unfolding read dec_le
-if-32 = refl
+if_32 = refl
 
 -- 32 nested `if`s, each `if q then`, and a bracket, or a 33rd `if`, where the innermost may have statements
-abbrev nestedIfs : ℕ → List Token → List Token
-nestedIfs zero r = r
-nestedIfs (suc n) r = fixed IF ∷ called "q" ∷ fixed THEN ∷ nestedIfs n r
+abbrev nested_ifs : ℕ → List Token → List Token
+nested_ifs zero r = r
+nested_ifs (suc n) r = fixed IF ∷ called "q" ∷ fixed THEN ∷ nested_ifs n r
 
-ifs-33 : read (statementsIn (nestedIfs 32 (fixed IF ∷ []))) ≡ refused4 112
+ifs_33 : read (statements_in (nested_ifs 32 (fixed IF ∷ []))) ≡ refused4 112
 unfolding read dec_le
-ifs-33 = refl
+ifs_33 = refl
 
-ifs-bracket : read (statementsIn (nestedIfs 32 (called "q" ∷ fixed ARROW ∷ fixed TRANSPORT ∷ fixed OPEN ∷ []))) ≡ refused4 115
+ifs_bracket : read (statements_in (nested_ifs 32 (called "q" ∷ fixed ARROW ∷ fixed TRANSPORT ∷ fixed OPEN ∷ []))) ≡ refused4 115
 unfolding read dec_le
-ifs-bracket = refl
+ifs_bracket = refl
 
 -- what is closed is open no more
-ifs-closed : read (statementsIn (nestedIfs 32 (fixed END ∷ fixed IF ∷ fixed SEMICOLON ∷ fixed IF ∷ []))) ≡ refused3 116
+ifs_closed : read (statements_in (nested_ifs 32 (fixed END ∷ fixed IF ∷ fixed SEMICOLON ∷ fixed IF ∷ []))) ≡ refused3 116
 unfolding read dec_le
-ifs-closed = refl
+ifs_closed = refl
 
 -- 3 BEFORE 4 AT ONE TOKEN: where 32 are open, an `if` that stands for a factor, and a bracket behind one, are refused 3
-if-for-factor : read (valued (many 32 (fixed OPEN) (fixed IF ∷ []))) ≡ refused3 51
+if_for_factor : read (valued (many 32 (fixed OPEN) (fixed IF ∷ []))) ≡ refused3 51
 unfolding read dec_le
-if-for-factor = refl
+if_for_factor = refl
 
-bracket-behind-factor : read (valued (many 32 (fixed OPEN) (called "q" ∷ fixed OPEN ∷ []))) ≡ refused3 52
+bracket_behind_factor : read (valued (many 32 (fixed OPEN) (called "q" ∷ fixed OPEN ∷ []))) ≡ refused3 52
 unfolding read dec_le
-bracket-behind-factor = refl
+bracket_behind_factor = refl

@@ -108,9 +108,9 @@ module _ {Symbol Token : Type 0} (Value : Symbol → Type 0) (next : (X : Symbol
     pub run_none : next X t ≡ none → run (t ∷ ts) (X ∷ ss) k ≡ refused3 0
     run_none n = ap (λ o. taking o ts ss k) n
 
-    pub run-some : (s : Step Value X) → next X t ≡ some s → weights weight (s.push ++ ss) ≤ most
+    pub run_some : (s : Step Value X) → next X t ≡ some s → weights weight (s.push ++ ss) ≤ most
         → run (t ∷ ts) (X ∷ ss) k ≡ later (run ts (s.push ++ ss) (λ us. k (made Value s ss us)))
-    run-some s n h = ap (λ o. taking o ts ss k) n ∙ go (dec_le (weights weight (s.push ++ ss)) most)
+    run_some s n h = ap (λ o. taking o ts ss k) n ∙ go (dec_le (weights weight (s.push ++ ss)) most)
       where
         go : (d : Dec (weights weight (s.push ++ ss) ≤ most)) → limited s d ts ss k ≡ later (run ts (s.push ++ ss) (λ us. k (made Value s ss us)))
         go (yes _) = refl
@@ -328,6 +328,6 @@ module _ {Symbol Token : Type 0} (Value : Symbol → Type 0) (text : (X : Symbol
         let a = depth-made X t ss s n us in
         let c = ap (depth (X ∷ ss)) m in
         let w = weights-least (s.push ++ ss) us in
-        run-some Value next weight most X t ts ss k s n (omega arith)
+        run_some Value next weight most X t ts ss k s n (omega arith)
         ∙ ap later (complete ts (s.push ++ ss) us (λ z. k (made Value s ss z)) g (omega arith))
         ∙ ap (λ z. accepted (k z)) m

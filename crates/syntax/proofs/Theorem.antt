@@ -9,33 +9,33 @@ use native.Mathlib.Decide.{dec_le}
 use lib.ListN.{length, take, drop, take-append-drop}
 use lib.Seq.{take_all, take-take}
 use Rattle.words.specs.Token.{Token}
-use Rattle.syntax.specs.Tree.{Design, designText}
-use Rattle.syntax.specs.Sentence.{mostOpen, nest, Sentence, Viable, ViableWithin, Stuck, Refused3, Refused4, Verdict, accepted, refused3, refused4, Right}
+use Rattle.syntax.specs.Tree.{Design, design_text}
+use Rattle.syntax.specs.Sentence.{most_open, nest, Sentence, Viable, ViableWithin, Stuck, Refused3, Refused4, Verdict, accepted, refused3, refused4, Right}
 use Rattle.syntax.proofs.Machine as machine
 use Rattle.syntax.proofs.Machine.{Values, ViableOf, Judged, judge, complete}
-use Rattle.syntax.proofs.Rows.{Symbol, Value, aDesign, text, next}
+use Rattle.syntax.proofs.Rows.{Symbol, Value, a_design, text, next}
 use Rattle.syntax.proofs.Laws.{sound, view, fill}
 use Rattle.syntax.proofs.Nesting.{weight, depth, shallow, deep}
 
 -- the machine over the grammar's rows, with the limit of document 01
 abbrev pub run : {D : Type 0} → List Token → (ss : List Symbol) → (Values Value ss → D) → Verdict D
-run = machine.run Value next weight mostOpen
+run = machine.run Value next weight most_open
 
 unfoldable pub read : List Token → Verdict Design
-read ts = run ts (aDesign ∷ []) (λ vs. vs.0)
+read ts = run ts (a_design ∷ []) (λ vs. vs.0)
 
 -- THE VERDICT IS RIGHT
 
-whole : (p : List Token) → Viable p → ViableOf Value text next weight depth mostOpen (aDesign ∷ []) p
+whole : (p : List Token) → Viable p → ViableOf Value text next weight depth most_open (a_design ∷ []) p
 whole p (d, r, e) = ((d, tt), r, e)
 
 pub read_right : (ts : List Token) → Right ts (read ts)
 unfolding read
-read_right ts = go (run ts (aDesign ∷ []) (λ vs. vs.0))
-    (judge Value text next weight depth mostOpen sound view fill shallow deep ts (aDesign ∷ []) (λ vs. vs.0) (omega arith))
+read_right ts = go (run ts (a_design ∷ []) (λ vs. vs.0))
+    (judge Value text next weight depth most_open sound view fill shallow deep ts (a_design ∷ []) (λ vs. vs.0) (omega arith))
   where
-    go : (v : Verdict Design) → Judged Value text next weight depth mostOpen (aDesign ∷ []) ts (λ vs. vs.0) v → Right ts v
-    go (accepted d) (vs, h, e, g) = (ap designText (sym e) ∙ g, subst (λ x. nest x ≤ mostOpen) e (omega arith))
+    go : (v : Verdict Design) → Judged Value text next weight depth most_open (a_design ∷ []) ts (λ vs. vs.0) v → Right ts v
+    go (accepted d) (vs, h, e, g) = (ap design_text (sym e) ∙ g, subst (λ x. nest x ≤ most_open) e (omega arith))
     go (refused3 k) ((vs, h, r, g), inl (l, bad)) = record {
       before = (vs.0, omega arith, r, g);
       here = inl (l, λ v. bad (whole (take (suc k) ts) v));
@@ -53,12 +53,12 @@ read_right ts = go (run ts (aDesign ∷ []) (λ vs. vs.0))
 -- NO OTHER VERDICT IS
 
 -- no list of tokens is the text of two trees, however deep
-pub one-tree : (d d' : Design) → designText d ≡ designText d' → d ≡ d'
-one-tree d d' e =
-    let p : machine.run Value next weight (max (nest d) (nest d')) (designText d') (aDesign ∷ []) (λ vs. vs.0) ≡ accepted d
-    = complete Value text next weight depth (max (nest d) (nest d')) sound view fill shallow deep (designText d') (aDesign ∷ []) (d, tt) (λ vs. vs.0) e (omega arith) in
-    let q : machine.run Value next weight (max (nest d) (nest d')) (designText d') (aDesign ∷ []) (λ vs. vs.0) ≡ accepted d'
-    = complete Value text next weight depth (max (nest d) (nest d')) sound view fill shallow deep (designText d') (aDesign ∷ []) (d', tt) (λ vs. vs.0) refl (omega arith) in
+pub one_tree : (d d' : Design) → design_text d ≡ design_text d' → d ≡ d'
+one_tree d d' e =
+    let p : machine.run Value next weight (max (nest d) (nest d')) (design_text d') (a_design ∷ []) (λ vs. vs.0) ≡ accepted d
+    = complete Value text next weight depth (max (nest d) (nest d')) sound view fill shallow deep (design_text d') (a_design ∷ []) (d, tt) (λ vs. vs.0) e (omega arith) in
+    let q : machine.run Value next weight (max (nest d) (nest d')) (design_text d') (a_design ∷ []) (λ vs. vs.0) ≡ accepted d'
+    = complete Value text next weight depth (max (nest d) (nest d')) sound view fill shallow deep (design_text d') (a_design ∷ []) (d', tt) (λ vs. vs.0) refl (omega arith) in
     cc
 
 module _ (ts : List Token) where
@@ -85,8 +85,8 @@ module _ (ts : List Token) where
   not_stuck (d, e) k (inl (_, bad)) = bad (d, drop (suc k) ts, e ∙ sym (take-append-drop (suc k) ts))
   not_stuck (d, e) k (inr (_, bad)) = bad (d, e)
 
-  pub last-viable : (j k : ℕ) → Stuck ts j → k ≤ length ts → Viable (take k ts) → k ≤ j
-  last-viable j k a l v = go a (dec_le k j)
+  pub last_viable : (j k : ℕ) → Stuck ts j → k ≤ length ts → Viable (take k ts) → k ≤ j
+  last_viable j k a l v = go a (dec_le k j)
     where
       go : Stuck ts j → Dec (k ≤ j) → k ≤ j
       go x (yes h) = h
@@ -98,10 +98,10 @@ module _ (ts : List Token) where
   place3 k (inr (e, _)) = omega arith
 
   -- two places where no sentence can go on, both behind tokens that can, are one
-  pub one-stuck : (j k : ℕ) → Stuck ts j → Viable (take j ts) → Stuck ts k → Viable (take k ts) → j ≡ k
-  one-stuck j k a v b w =
-      let p = last-viable j k a (place3 k b) w in
-      let q = last-viable k j b (place3 j a) v in
+  pub one_stuck : (j k : ℕ) → Stuck ts j → Viable (take j ts) → Stuck ts k → Viable (take k ts) → j ≡ k
+  one_stuck j k a v b w =
+      let p = last_viable j k a (place3 k b) w in
+      let q = last_viable k j b (place3 j a) v in
       omega arith
 
   pub place4 : (k : ℕ) → Refused4 ts k → k < length ts
@@ -111,35 +111,35 @@ module _ (ts : List Token) where
       go (no h) = omega arith
       go (yes h) = absurd (a.here (rw (take_all (suc k) ts (omega arith), ← (take_all k ts h)) a.before))
 
-  not-3-and-4 : (j k : ℕ) → Refused3 ts j → ¬ Refused4 ts k
-  not-3-and-4 j k a b =
-      let m = last-viable j (suc k) a.here (place4 k b) b.viable in
+  not_3_and_4 : (j k : ℕ) → Refused3 ts j → ¬ Refused4 ts k
+  not_3_and_4 j k a b =
+      let m = last_viable j (suc k) a.here (place4 k b) b.viable in
       b.here (shorter-within (suc k) j m a.before)
 
-  pub one-verdict : (u v : Verdict Design) → Right ts u → Right ts v → u ≡ v
-  one-verdict (accepted d) (accepted d') a b = ap accepted (one-tree d d' (a.0 ∙ sym b.0))
-  one-verdict (accepted d) (refused3 k) a b = absurd (not_stuck (d, a.0) k b.here)
-  one-verdict (accepted d) (refused4 k) a b = absurd (b.here (sentence-within d a (suc k)))
-  one-verdict (refused3 k) (accepted d) a b = absurd (not_stuck (d, b.0) k a.here)
-  one-verdict (refused3 j) (refused3 k) a b = ap refused3 (one-stuck j k a.here (viable-within j a.before) b.here (viable-within k b.before))
-  one-verdict (refused3 j) (refused4 k) a b = absurd (not-3-and-4 j k a b)
-  one-verdict (refused4 k) (accepted d) a b = absurd (a.here (sentence-within d b (suc k)))
-  one-verdict (refused4 k) (refused3 j) a b = absurd (not-3-and-4 j k b a)
-  one-verdict (refused4 j) (refused4 k) a b =
+  pub one_verdict : (u v : Verdict Design) → Right ts u → Right ts v → u ≡ v
+  one_verdict (accepted d) (accepted d') a b = ap accepted (one_tree d d' (a.0 ∙ sym b.0))
+  one_verdict (accepted d) (refused3 k) a b = absurd (not_stuck (d, a.0) k b.here)
+  one_verdict (accepted d) (refused4 k) a b = absurd (b.here (sentence-within d a (suc k)))
+  one_verdict (refused3 k) (accepted d) a b = absurd (not_stuck (d, b.0) k a.here)
+  one_verdict (refused3 j) (refused3 k) a b = ap refused3 (one_stuck j k a.here (viable-within j a.before) b.here (viable-within k b.before))
+  one_verdict (refused3 j) (refused4 k) a b = absurd (not_3_and_4 j k a b)
+  one_verdict (refused4 k) (accepted d) a b = absurd (a.here (sentence-within d b (suc k)))
+  one_verdict (refused4 k) (refused3 j) a b = absurd (not_3_and_4 j k b a)
+  one_verdict (refused4 j) (refused4 k) a b =
       let p : ¬ (j < k) = λ h. a.here (shorter-within (suc j) k h b.before) in
       let q : ¬ (k < j) = λ h. b.here (shorter-within (suc k) j h a.before) in
       ap refused4 (omega arith)
 
 -- THE THEOREM: a verdict is given exactly where it is right
-pub read-exact : (ts : List Token) (v : Verdict Design) → (read ts ≡ v) ↔ Right ts v
-read-exact ts v = (λ e. subst (Right ts) e (read_right ts), λ h. one-verdict ts (read ts) v (read_right ts) h)
+pub read_exact : (ts : List Token) (v : Verdict Design) → (read ts ≡ v) ↔ Right ts v
+read_exact ts v = (λ e. subst (Right ts) e (read_right ts), λ h. one_verdict ts (read ts) v (read_right ts) h)
 
 -- its three cases
-pub accepts : (ts : List Token) (d : Design) → (read ts ≡ accepted d) ↔ ((designText d ≡ ts) × (nest d ≤ mostOpen))
-accepts ts d = read-exact ts (accepted d)
+pub accepts : (ts : List Token) (d : Design) → (read ts ≡ accepted d) ↔ ((design_text d ≡ ts) × (nest d ≤ most_open))
+accepts ts d = read_exact ts (accepted d)
 
 pub refuses3 : (ts : List Token) (k : ℕ) → (read ts ≡ refused3 k) ↔ Refused3 ts k
-refuses3 ts k = read-exact ts (refused3 k)
+refuses3 ts k = read_exact ts (refused3 k)
 
 pub refuses4 : (ts : List Token) (k : ℕ) → (read ts ≡ refused4 k) ↔ Refused4 ts k
-refuses4 ts k = read-exact ts (refused4 k)
+refuses4 ts k = read_exact ts (refused4 k)

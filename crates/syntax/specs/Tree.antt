@@ -78,105 +78,105 @@ pub data Design : Type 0 where
 -- TEXTS: the tokens of a tree, in front of the tokens r
 
 abbrev mutual
-  pub expressionText : Expression → List Token → List Token
-  expressionText (expression f t) r = factorText f (tailText t r)
+  pub expression_text : Expression → List Token → List Token
+  expression_text (expression f t) r = factor_text f (tail_text t r)
 
-  pub tailText : Tail → List Token → List Token
-  tailText alone r = r
-  tailText (joined o f) r = once o ∷ factorText f r
-  tailText (chained c f m) r = chain c ∷ factorText f (moreText m c r)
+  pub tail_text : Tail → List Token → List Token
+  tail_text alone r = r
+  tail_text (joined o f) r = once o ∷ factor_text f r
+  tail_text (chained c f m) r = chain c ∷ factor_text f (more_text m c r)
 
-  pub moreText : More → Chain → List Token → List Token
-  moreText enough c r = r
-  moreText (more f m) c r = chain c ∷ factorText f (moreText m c r)
+  pub more_text : More → Chain → List Token → List Token
+  more_text enough c r = r
+  more_text (more f m) c r = chain c ∷ factor_text f (more_text m c r)
 
-  pub factorText : Factor → List Token → List Token
-  factorText (plain p) r = primaryText p r
-  factorText (negated p) r = fixed NOT ∷ primaryText p r
+  pub factor_text : Factor → List Token → List Token
+  factor_text (plain p) r = primary_text p r
+  factor_text (negated p) r = fixed NOT ∷ primary_text p r
 
-  pub primaryText : Primary → List Token → List Token
-  primaryText (named n) r = name n ∷ r
-  primaryText (constant b) r = literal b ∷ r
-  primaryText (bracketed e) r = fixed OPEN ∷ expressionText e (fixed CLOSE ∷ r)
+  pub primary_text : Primary → List Token → List Token
+  primary_text (named n) r = name n ∷ r
+  primary_text (constant b) r = literal b ∷ r
+  primary_text (bracketed e) r = fixed OPEN ∷ expression_text e (fixed CLOSE ∷ r)
 
-abbrev pub delayText : Delay → List Token → List Token
-delayText immediate r = r
-delayText (after n u) r = fixed AFTER ∷ integer n ∷ unit u ∷ r
+abbrev pub delay_text : Delay → List Token → List Token
+delay_text immediate r = r
+delay_text (after n u) r = fixed AFTER ∷ integer n ∷ unit u ∷ r
 
 abbrev mutual
-  pub statementsText : Statements → List Token → List Token
-  statementsText done r = r
-  statementsText (also s ss) r = statementText s (statementsText ss r)
+  pub statements_text : Statements → List Token → List Token
+  statements_text done r = r
+  statements_text (also s ss) r = statement_text s (statements_text ss r)
 
-  pub statementText : Statement → List Token → List Token
-  statementText (assignment n e d) r = name n ∷ fixed ARROW ∷ fixed TRANSPORT ∷ expressionText e (delayText d (fixed SEMICOLON ∷ r))
-  statementText (conditional e ss o) r =
-      fixed IF ∷ expressionText e (fixed THEN ∷ statementsText ss (otherwiseText o (fixed END ∷ fixed IF ∷ fixed SEMICOLON ∷ r)))
-  statementText null r = fixed NULL ∷ fixed SEMICOLON ∷ r
+  pub statement_text : Statement → List Token → List Token
+  statement_text (assignment n e d) r = name n ∷ fixed ARROW ∷ fixed TRANSPORT ∷ expression_text e (delay_text d (fixed SEMICOLON ∷ r))
+  statement_text (conditional e ss o) r =
+      fixed IF ∷ expression_text e (fixed THEN ∷ statements_text ss (otherwise_text o (fixed END ∷ fixed IF ∷ fixed SEMICOLON ∷ r)))
+  statement_text null r = fixed NULL ∷ fixed SEMICOLON ∷ r
 
-  pub otherwiseText : Otherwise → List Token → List Token
-  otherwiseText missing r = r
-  otherwiseText (otherwise ss) r = fixed ELSE ∷ statementsText ss r
+  pub otherwise_text : Otherwise → List Token → List Token
+  otherwise_text missing r = r
+  otherwise_text (otherwise ss) r = fixed ELSE ∷ statements_text ss r
 
 -- what may be missing
-abbrev pub wordText : Bool → Fixed → List Token → List Token
-wordText true w r = fixed w ∷ r
-wordText false w r = r
+abbrev pub word_text : Bool → Fixed → List Token → List Token
+word_text true w r = fixed w ∷ r
+word_text false w r = r
 
-abbrev pub nameText : Option Name → List Token → List Token
-nameText none r = r
-nameText (some n) r = name n ∷ r
+abbrev pub name_text : Option Name → List Token → List Token
+name_text none r = r
+name_text (some n) r = name n ∷ r
 
 -- {`,` name}
-abbrev pub commaText : List Name → List Token → List Token
-commaText [] r = r
-commaText (n ∷ ns) r = fixed COMMA ∷ name n ∷ commaText ns r
+abbrev pub comma_text : List Name → List Token → List Token
+comma_text [] r = r
+comma_text (n ∷ ns) r = fixed COMMA ∷ name n ∷ comma_text ns r
 
-abbrev pub initialText : Option Bool → List Token → List Token
-initialText none r = r
-initialText (some b) r = fixed BECOMES ∷ literal b ∷ r
+abbrev pub initial_text : Option Bool → List Token → List Token
+initial_text none r = r
+initial_text (some b) r = fixed BECOMES ∷ literal b ∷ r
 
-abbrev pub declarationText : Declaration → List Token → List Token
-declarationText (declaration n ns i) r =
-    fixed SIGNAL ∷ name n ∷ commaText ns (fixed COLON ∷ fixed BOOLEAN ∷ initialText i (fixed SEMICOLON ∷ r))
+abbrev pub declaration_text : Declaration → List Token → List Token
+declaration_text (declaration n ns i) r =
+    fixed SIGNAL ∷ name n ∷ comma_text ns (fixed COLON ∷ fixed BOOLEAN ∷ initial_text i (fixed SEMICOLON ∷ r))
 
-abbrev pub sensitivityText : Sensitivity → List Token → List Token
-sensitivityText unlisted r = r
-sensitivityText (listed n ns) r = fixed OPEN ∷ name n ∷ commaText ns (fixed CLOSE ∷ r)
+abbrev pub sensitivity_text : Sensitivity → List Token → List Token
+sensitivity_text unlisted r = r
+sensitivity_text (listed n ns) r = fixed OPEN ∷ name n ∷ comma_text ns (fixed CLOSE ∷ r)
 
-abbrev pub labelText : Option Name → List Token → List Token
-labelText none r = r
-labelText (some n) r = name n ∷ fixed COLON ∷ r
+abbrev pub label_text : Option Name → List Token → List Token
+label_text none r = r
+label_text (some n) r = name n ∷ fixed COLON ∷ r
 
-abbrev pub processText : Process → List Token → List Token
-processText (process l s i b c) r =
-    labelText l (fixed PROCESS ∷ sensitivityText s (wordText i IS (fixed BEGIN
-    ∷ statementsText b (fixed END ∷ fixed PROCESS ∷ nameText c (fixed SEMICOLON ∷ r)))))
+abbrev pub process_text : Process → List Token → List Token
+process_text (process l s i b c) r =
+    label_text l (fixed PROCESS ∷ sensitivity_text s (word_text i IS (fixed BEGIN
+    ∷ statements_text b (fixed END ∷ fixed PROCESS ∷ name_text c (fixed SEMICOLON ∷ r)))))
 
-abbrev pub declarationsText : List Declaration → List Token → List Token
-declarationsText [] r = r
-declarationsText (d ∷ ds) r = declarationText d (declarationsText ds r)
+abbrev pub declarations_text : List Declaration → List Token → List Token
+declarations_text [] r = r
+declarations_text (d ∷ ds) r = declaration_text d (declarations_text ds r)
 
-abbrev pub processesText : List Process → List Token → List Token
-processesText [] r = r
-processesText (p ∷ ps) r = processText p (processesText ps r)
+abbrev pub processes_text : List Process → List Token → List Token
+processes_text [] r = r
+processes_text (p ∷ ps) r = process_text p (processes_text ps r)
 
-abbrev pub wholeText : Design → List Token → List Token
-wholeText (design e w c a o ds ps w' c') r =
-    fixed ENTITY ∷ name e ∷ fixed IS ∷ fixed END ∷ wordText w ENTITY (nameText c (fixed SEMICOLON
-    ∷ fixed ARCHITECTURE ∷ name a ∷ fixed OF ∷ name o ∷ fixed IS ∷ declarationsText ds (fixed BEGIN ∷ processesText ps (fixed END
-    ∷ wordText w' ARCHITECTURE (nameText c' (fixed SEMICOLON ∷ r))))))
+abbrev pub whole_text : Design → List Token → List Token
+whole_text (design e w c a o ds ps w' c') r =
+    fixed ENTITY ∷ name e ∷ fixed IS ∷ fixed END ∷ word_text w ENTITY (name_text c (fixed SEMICOLON
+    ∷ fixed ARCHITECTURE ∷ name a ∷ fixed OF ∷ name o ∷ fixed IS ∷ declarations_text ds (fixed BEGIN ∷ processes_text ps (fixed END
+    ∷ word_text w' ARCHITECTURE (name_text c' (fixed SEMICOLON ∷ r))))))
 
 -- and end of text
-abbrev pub designText : Design → List Token
-designText d = wholeText d []
+abbrev pub design_text : Design → List Token
+design_text d = whole_text d []
 
 -- EXAMPLE: each part that may be missing once there and once not
 
 -- entity e is end entity e; architecture a of e is signal q, d : boolean := true; signal s : boolean; begin
 -- p : process (q, d) is begin if not q then q <= transport (q nand d) and false and q after 3 ns; else null; end if; end process p;
 -- process begin d <= transport q; end process; end;
-text-example : designText (design (bytes "e") true (some (bytes "e")) (bytes "a") (bytes "e")
+text-example : design_text (design (bytes "e") true (some (bytes "e")) (bytes "a") (bytes "e")
     (declaration (bytes "q") (bytes "d" ∷ []) (some true) ∷ declaration (bytes "s") [] none ∷ [])
     (process (some (bytes "p")) (listed (bytes "q") (bytes "d" ∷ [])) true
     (also (conditional (expression (negated (named (bytes "q"))) alone)

@@ -8,21 +8,21 @@ use lib.Dec.{ltb, eqb}
 use lib.ListN.{length}
 use borrow.Author.Tests.{ltb-true, eqb-false}
 use Rattle.laws.proofs.Cases.{split, neither}
-use Rattle.rules.specs.Pending.{Change, before, kept, dueIn}
+use Rattle.rules.specs.Pending.{Change, before, kept, due_in}
 use Rattle.rules.specs.Session.{Each, Rising}
 
 module _ (P : Change → Type 0) where
-  pub each-before : (t : ℕ) (cs : List Change) → Each P cs → Each P (before t cs)
+  pub each_before : (t : ℕ) (cs : List Change) → Each P cs → Each P (before t cs)
   unfolding Each before
-  each-before t [] h = tt
-  each-before t (c ∷ cs) h =
-      split (ltb c.time t) (λ e. rw e (h.0, each-before t cs h.1)) (λ e. rw e (each-before t cs h.1))
+  each_before t [] h = tt
+  each_before t (c ∷ cs) h =
+      split (ltb c.time t) (λ e. rw e (h.0, each_before t cs h.1)) (λ e. rw e (each_before t cs h.1))
 
-  pub each-kept : (t : ℕ) (cs : List Change) → Each P cs → Each P (kept t cs)
+  pub each_kept : (t : ℕ) (cs : List Change) → Each P cs → Each P (kept t cs)
   unfolding Each kept
-  each-kept t [] h = tt
-  each-kept t (c ∷ cs) h =
-      split (eqb c.time t) (λ e. rw e (each-kept t cs h.1)) (λ e. rw e (h.0, each-kept t cs h.1))
+  each_kept t [] h = tt
+  each_kept t (c ∷ cs) h =
+      split (eqb c.time t) (λ e. rw e (each_kept t cs h.1)) (λ e. rw e (h.0, each_kept t cs h.1))
 
   pub each_append : (cs : List Change) (c : Change) → Each P cs → P c → Each P (cs ++ (c ∷ []))
   unfolding Each
@@ -45,7 +45,7 @@ unfolding Rising before
 rising-before t [] h = tt
 rising-before t (c ∷ cs) h =
     split (ltb c.time t)
-    (λ e. rw e (each-before (λ d. c.time < d.time) t cs h.0, rising-before t cs h.1))
+    (λ e. rw e (each_before (λ d. c.time < d.time) t cs h.0, rising-before t cs h.1))
     (λ e. rw e (rising-before t cs h.1))
 
 pub rising-kept : (t : ℕ) (cs : List Change) → Rising cs → Rising (kept t cs)
@@ -54,7 +54,7 @@ rising-kept t [] h = tt
 rising-kept t (c ∷ cs) h =
     split (eqb c.time t)
     (λ e. rw e (rising-kept t cs h.1))
-    (λ e. rw e (each-kept (λ d. c.time < d.time) t cs h.0, rising-kept t cs h.1))
+    (λ e. rw e (each_kept (λ d. c.time < d.time) t cs h.0, rising-kept t cs h.1))
 
 pub rising-append : (cs : List Change) (c : Change) → Rising cs → Each (λ d. d.time < c.time) cs → Rising (cs ++ (c ∷ []))
 unfolding Rising Each
@@ -68,10 +68,10 @@ length-kept t (c ∷ cs) =
     split (eqb c.time t) (λ e. rw e (omega (arith, length-kept t cs))) (λ e. rw e (omega (arith, length-kept t cs)))
 
 -- where none is due and none is earlier, all are later
-pub later-kept : (t : ℕ) (cs : List Change) → dueIn t cs ≡ false → Each (λ c. t ≤ c.time) cs → Each (λ c. t < c.time) cs
-unfolding Each dueIn
+pub later-kept : (t : ℕ) (cs : List Change) → due_in t cs ≡ false → Each (λ c. t ≤ c.time) cs → Each (λ c. t < c.time) cs
+unfolding Each due_in
 later-kept t [] h g = tt
 later-kept t (c ∷ cs) h g =
-    let n = neither (eqb c.time t) (dueIn t cs) h in
+    let n = neither (eqb c.time t) (due_in t cs) h in
     let apart = eqb-false c.time t n.0 in
     (omega (arith, g.0), later-kept t cs n.1 g.1)

@@ -10,7 +10,7 @@ use Rattle.words.specs.Unit.{longest}
 use Rattle.rules.specs.Runner.{Runner}
 use Rattle.rules.specs.Statements.{means}
 use Rattle.rules.specs.Session.{Session, FitSession}
-use Rattle.rules.specs.Calls.{Answer, refused, quiet, stopReached, moved, start, advance, advances, following, calls}
+use Rattle.rules.specs.Calls.{Answer, refused, quiet, stop_reached, moved, start, advance, advances, following, calls}
 use Rattle.rules.specs.Sized.{Sized}
 use Rattle.table.proofs.Sessions.{AnswersFit, leaves-fit, start-fit, advance-fit}
 use Rattle.table.proofs.Written.{WritesFit, start-writes, advance-writes}
@@ -18,7 +18,7 @@ use Rattle.table.specs.Table.{Table, runners}
 use Rattle.table.specs.Fit.{FitTable}
 use Rattle.table.specs.Translation.{translate}
 use Rattle.table.proofs.Faithful.{faithful}
-use Rattle.table.proofs.Fitting.{fit-translation}
+use Rattle.table.proofs.Fitting.{fit_translation}
 use Rattle.table.proofs.Obedient.{table-obedient}
 
 -- every stop keeps its size; every session that a call leaves is fit
@@ -41,12 +41,12 @@ pub record SameCalls (c : Circuit) : Type 0 where
   pub calls : (stops : List ℕ) → calls (runners (translate c)) (translate c).initial stops ≡ calls (map means c.processes) c.initial stops
 
 -- demand 3
-pub demand-3 : (c : Circuit) → Sized c → SameCalls c
+pub demand_3 : (c : Circuit) → Sized c → SameCalls c
 unfolding translate
-demand-3 c s =
+demand_3 c s =
     let same : runners (translate c) ≡ map means c.processes = sym (faithful c s) in
     record {
-      fit = fit-translation c s;
+      fit = fit_translation c s;
       starts = ap (λ rs. start rs c.initial) same;
       advances = λ stop session. ap (λ rs. advance rs stop session) same;
       sessions = λ session.
@@ -65,10 +65,10 @@ module _ (t : Table) (f : FitTable t) where
 
   -- what a call writes fits its buffer
   pub start-short : WritesFit (start (runners t) t.initial)
-  start-short = start-writes (runners t) (length t.initial) f.fewSignals t.initial fit-start
+  start-short = start-writes (runners t) (length t.initial) f.few_signals t.initial fit-start
 
   pub advance-short : (stop : ℕ) (s : Session) → stop ≤ longest → FitSession (runners t) (length t.initial) s → WritesFit (advance (runners t) stop s)
-  advance-short stop s h g = advance-writes (runners t) (length t.initial) f.fewSignals stop s h (fit-advance stop s h g)
+  advance-short stop s h g = advance-writes (runners t) (length t.initial) f.few_signals stop s h (fit-advance stop s h g)
 
   fit-advances : (stops : List ℕ) (s : Session) → InSize stops → FitSession (runners t) (length t.initial) s
       → AllFit (runners t) (length t.initial) (advances (runners t) s stops)
@@ -83,7 +83,7 @@ module _ (t : Table) (f : FitTable t) where
   unfolding AllFit
   fit-following (refused r) stops h g = tt
   fit-following quiet stops h g = tt
-  fit-following stopReached stops h g = tt
+  fit-following stop_reached stops h g = tt
   fit-following (moved m) stops h g = fit-advances stops m.session h g
 
   -- and so for any number of calls after the start

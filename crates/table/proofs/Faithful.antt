@@ -15,80 +15,80 @@ use Rattle.rules.specs.Statements.{assigns, member, means}
 use Rattle.rules.specs.Sized.{instructions, total, Listed, idle, Sized}
 use Rattle.table.specs.Instructions.{Instruction, negation, binary}
 use Rattle.table.specs.Table.{bit, tabulate, begins, part, posts, runner, runners}
-use Rattle.table.specs.Translation.{formulaCode, code, endsFrom, codeFrom, listenersOf, translate}
-use Rattle.table.proofs.Tabulated.{length-tabulate, at-tabulate, map-tabulate, bit-zero, bit_word}
+use Rattle.table.specs.Translation.{formula_code, code, ends_from, code_from, listeners_of, translate}
+use Rattle.table.proofs.Tabulated.{length-tabulate, at_tabulate, map-tabulate, bit-zero, bit_word}
 use Rattle.table.proofs.Translating.{meaning, length-code}
 
 -- what follows the code of a formula or of statements is what follows it
-formula-front : (e : Formula) (is js : List Instruction) → formulaCode e (is ++ js) ≡ formulaCode e is ++ js
-unfolding formulaCode
-formula-front (signal k) is js = refl
-formula-front (constant b) is js = refl
-formula-front (negated e) is js = formula-front e (negation ∷ is) js
-formula-front (combined o a b) is js =
-    ap (formulaCode a) (formula-front b (binary o ∷ is) js) ∙ formula-front a (formulaCode b (binary o ∷ is)) js
+formula_front : (e : Formula) (is js : List Instruction) → formula_code e (is ++ js) ≡ formula_code e is ++ js
+unfolding formula_code
+formula_front (signal k) is js = refl
+formula_front (constant b) is js = refl
+formula_front (negated e) is js = formula_front e (negation ∷ is) js
+formula_front (combined o a b) is js =
+    ap (formula_code a) (formula_front b (binary o ∷ is) js) ∙ formula_front a (formula_code b (binary o ∷ is)) js
 
 pub front : (ss : Actions) (x : ℕ) (is js : List Instruction) → code x ss (is ++ js) ≡ code x ss is ++ js
 unfolding code
 front done x is js = refl
-front (assign k e d ss) x is js = simp (← formula-front, ← front ss)
-front (branch e a b ss) x is js = simp (← formula-front, ← front a, ← front b, ← front ss)
+front (assign k e d ss) x is js = simp (← formula_front, ← front ss)
+front (branch e a b ss) x is js = simp (← formula_front, ← front a, ← front b, ← front ss)
 front (null ss) x is js = front ss x is js
 
 -- the code posts to the signals that the statements assign
-posts-formula : (e : Formula) (is : List Instruction) (k : ℕ) → posts (formulaCode e is) k ≡ posts is k
-unfolding formulaCode posts
-posts-formula (signal i) is k = refl
-posts-formula (constant b) is k = refl
-posts-formula (negated e) is k = posts-formula e (negation ∷ is) k
-posts-formula (combined o a b) is k = posts-formula a (formulaCode b (binary o ∷ is)) k ∙ posts-formula b (binary o ∷ is) k
+posts_formula : (e : Formula) (is : List Instruction) (k : ℕ) → posts (formula_code e is) k ≡ posts is k
+unfolding formula_code posts
+posts_formula (signal i) is k = refl
+posts_formula (constant b) is k = refl
+posts_formula (negated e) is k = posts_formula e (negation ∷ is) k
+posts_formula (combined o a b) is k = posts_formula a (formula_code b (binary o ∷ is)) k ∙ posts_formula b (binary o ∷ is) k
 
 pub posts-code : (ss : Actions) (x : ℕ) (is : List Instruction) (k : ℕ) → posts (code x ss is) k ≡ (assigns ss k || posts is k)
 unfolding code posts assigns
 posts-code done x is k = refl
-posts-code (assign i e d ss) x is k = simp (posts-formula, posts-code ss, or_assoc)
-posts-code (branch e a b ss) x is k = simp (posts-formula, posts-code a, posts-code b, posts-code ss, or_assoc)
+posts-code (assign i e d ss) x is k = simp (posts_formula, posts-code ss, or_assoc)
+posts-code (branch e a b ss) x is k = simp (posts_formula, posts-code a, posts-code b, posts-code ss, or_assoc)
 posts-code (null ss) x is k = posts-code ss x is k
 
 -- where process p begins, and its code
 unfoldable pub base : List Activity → ℕ → ℕ
 base l p = total (take p l)
 
-length-ends : (l : List Activity) (x : ℕ) → length (endsFrom x l) ≡ length l
-unfolding endsFrom
+length-ends : (l : List Activity) (x : ℕ) → length (ends_from x l) ≡ length l
+unfolding ends_from
 length-ends [] x = refl
 length-ends (a ∷ l) x = ap suc (length-ends l (x + instructions a.body))
 
-end-at : (l : List Activity) (x p : ℕ) → p < length l → get_or (endsFrom x l) p 0 ≡ x + base l (suc p)
-unfolding endsFrom base total
-end-at [] x p h = absurd (omega arith)
-end-at (a ∷ l) x zero h = omega arith
-end-at (a ∷ l) x (suc p) h = omega (arith, end-at l (x + instructions a.body) p (omega arith))
+end_at : (l : List Activity) (x p : ℕ) → p < length l → get_or (ends_from x l) p 0 ≡ x + base l (suc p)
+unfolding ends_from base total
+end_at [] x p h = absurd (omega arith)
+end_at (a ∷ l) x zero h = omega arith
+end_at (a ∷ l) x (suc p) h = omega (arith, end_at l (x + instructions a.body) p (omega arith))
 
-pub base-next : (l : List Activity) (p : ℕ) → p < length l → base l (suc p) ≡ base l p + instructions (get_or l p idle).body
+pub base_next : (l : List Activity) (p : ℕ) → p < length l → base l (suc p) ≡ base l p + instructions (get_or l p idle).body
 unfolding base total
-base-next [] p h = absurd (omega arith)
-base-next (a ∷ l) zero h = omega arith
-base-next (a ∷ l) (suc p) h = omega (arith, base-next l p (omega arith))
+base_next [] p h = absurd (omega arith)
+base_next (a ∷ l) zero h = omega arith
+base_next (a ∷ l) (suc p) h = omega (arith, base_next l p (omega arith))
 
-pub begin-at : (c : Circuit) (p : ℕ) → p ≤ length c.processes → begins (translate c) p ≡ base c.processes p
+pub begin_at : (c : Circuit) (p : ℕ) → p ≤ length c.processes → begins (translate c) p ≡ base c.processes p
 unfolding translate base total
-begin-at c zero h = refl
-begin-at c (suc p) h = omega (arith, end-at c.processes 0 p (omega arith))
+begin_at c zero h = refl
+begin_at c (suc p) h = omega (arith, end_at c.processes 0 p (omega arith))
 
 cut : (l : List Activity) (x p : ℕ) → p < length l
-    → take (instructions (get_or l p idle).body) (drop (base l p) (codeFrom x l)) ≡ code (x + base l p) (get_or l p idle).body []
-unfolding codeFrom base total
+    → take (instructions (get_or l p idle).body) (drop (base l p) (code_from x l)) ≡ code (x + base l p) (get_or l p idle).body []
+unfolding code_from base total
 cut [] x p h = absurd (omega arith)
 cut (a ∷ l) x zero h =
     let e : x + 0 ≡ x = omega arith in
-    rw (e, front a.body x [] (codeFrom (x + instructions a.body) l))
+    rw (e, front a.body x [] (code_from (x + instructions a.body) l))
     (take_at (code x a.body []) _ (instructions a.body) (omega (arith, length-code a.body x [])))
 cut (a ∷ l) x (suc p) h =
     let y = x + instructions a.body in
     let e : x + (instructions a.body + total (take p l)) ≡ y + total (take p l) = omega arith in
-    rw (e, front a.body x [] (codeFrom y l), ← drop-drop (total (take p l)) (instructions a.body))
-    (rw (drop_at (code x a.body []) (codeFrom y l) (instructions a.body) (omega (arith, length-code a.body x []))) (cut l y p (omega arith)))
+    rw (e, front a.body x [] (code_from y l), ← drop-drop (total (take p l)) (instructions a.body))
+    (rw (drop_at (code x a.body []) (code_from y l) (instructions a.body) (omega (arith, length-code a.body x []))) (cut l y p (omega arith)))
 
 cut-whole : (c : Circuit) (p : ℕ) → p < length c.processes
     → take (instructions (get_or c.processes p idle).body) (drop (base c.processes p) (translate c).code) ≡ code (base c.processes p) (get_or c.processes p idle).body []
@@ -99,9 +99,9 @@ cut-whole c p h = cut c.processes 0 p h ∙ ap (λ x. code x (get_or c.processes
 pub part_at : (c : Circuit) (p : ℕ) → p < length c.processes
     → part (translate c) p ≡ code (begins (translate c) p) (get_or c.processes p idle).body []
 part_at c p h =
-    let b = begin-at c p (omega arith) in
+    let b = begin_at c p (omega arith) in
     let n : begins (translate c) (suc p) - begins (translate c) p ≡ instructions (get_or c.processes p idle).body =
-    omega (arith, begin-at c (suc p) (omega arith), base-next c.processes p h) in
+    omega (arith, begin_at c (suc p) (omega arith), base_next c.processes p h) in
     rw (n, b) (cut-whole c p h)
 
 -- a signal wakes it in the table where it stands in the list
@@ -110,33 +110,33 @@ unfolding Listed member
 unlisted n [] k h g = refl
 unlisted n (i ∷ l) k h g = rw (ne_eqb i k (λ e. omega arith)) (unlisted n l k h.1 g)
 
-wakes-at : (c : Circuit) (p k : ℕ) → Listed (length c.initial) (get_or c.processes p idle).wakes → p < length c.processes
+wakes_at : (c : Circuit) (p k : ℕ) → Listed (length c.initial) (get_or c.processes p idle).wakes → p < length c.processes
     → member (get_or c.processes p idle).wakes k ≡ bit (get_or (translate c).listeners k 0) p
-unfolding translate listenersOf
-wakes-at c p k s h =
+unfolding translate listeners_of
+wakes_at c p k s h =
     let l = c.processes in
     let n = length c.initial in
     let heard : List Bool = map (λ a. member a.wakes k) l in
     ⊎_elim
     (λ g.
-    let e : get_or (tabulate (listenersOf l) 0 n) k 0 ≡ listenersOf l k =
-    at-tabulate (listenersOf l) 0 0 n k g ∙ ap (listenersOf l) (omega arith) in
+    let e : get_or (tabulate (listeners_of l) 0 n) k 0 ≡ listeners_of l k =
+    at_tabulate (listeners_of l) 0 0 n k g ∙ ap (listeners_of l) (omega arith) in
     rw e (sym (bit_word heard p ∙ at_map (λ a. member a.wakes k) l p idle false h)))
     (λ g.
-    let e = get_or-eq_default (tabulate (listenersOf l) 0 n) 0 {n = k} (omega (arith, length-tabulate (listenersOf l) 0 n)) in
+    let e = get_or-eq_default (tabulate (listeners_of l) 0 n) 0 {n = k} (omega (arith, length-tabulate (listeners_of l) 0 n)) in
     rw e (unlisted n _ k s g ∙ sym (bit-zero p)))
     (side k n)
 
-same-process : (c : Circuit) (p : ℕ) → Listed (length c.initial) (get_or c.processes p idle).wakes → p < length c.processes
+same_process : (c : Circuit) (p : ℕ) → Listed (length c.initial) (get_or c.processes p idle).wakes → p < length c.processes
     → means (get_or c.processes p idle) ≡ runner (translate c) p
 unfolding means runner posts
-same-process c p s h =
+same_process c p s h =
     let a = get_or c.processes p idle in
     let x = begins (translate c) p in
     rw (part_at c p h)
     (λ i.
     record {
-      wakes = λ k. wakes-at c p k s h i;
+      wakes = λ k. wakes_at c p k s h i;
       goes = λ vs now q n. sym (meaning vs now a.body x q n) i;
       drives = λ k. (sym (or-false (assigns a.body k)) ∙ sym (posts-code a.body x [] k)) i;
     })
@@ -151,4 +151,4 @@ unfolding runners
 faithful c s =
     rw (as_many c)
     (map-tabulate means (runner (translate c)) idle c.processes 0
-    (λ p h. same-process c p (s.listed p h) h ∙ ap (runner (translate c)) (omega arith)))
+    (λ p h. same_process c p (s.listed p h) h ∙ ap (runner (translate c)) (omega arith)))

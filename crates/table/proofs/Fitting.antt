@@ -14,10 +14,10 @@ use Rattle.rules.specs.Sized.{instructions, total, Known, Keeps, idle, Sized}
 use Rattle.table.specs.Instructions.{Instruction, negation}
 use Rattle.table.specs.Table.{tabulate, begins, part, posts}
 use Rattle.table.specs.Fit.{at, Exists, Sound, FitTable}
-use Rattle.table.specs.Translation.{formulaCode, code, codeFrom, word, listenersOf, translate}
-use Rattle.table.proofs.Tabulated.{length-tabulate, at-tabulate, word_below}
+use Rattle.table.specs.Translation.{formula_code, code, code_from, word, listeners_of, translate}
+use Rattle.table.proofs.Tabulated.{length-tabulate, at_tabulate, word_below}
 use Rattle.table.proofs.Translating.{length-code}
-use Rattle.table.proofs.Faithful.{as_many, base, base-next, begin-at, part_at, posts-code}
+use Rattle.table.proofs.Faithful.{as_many, base, base_next, begin_at, part_at, posts-code}
 use Rattle.table.proofs.Heights.{sound-code}
 
 -- all instructions exist
@@ -25,44 +25,44 @@ unfoldable pub AllExist : ℕ → List Instruction → Type 0
 AllExist n [] = Unit {0}
 AllExist n (i ∷ is) = Exists n i × AllExist n is
 
-exist-at : (n : ℕ) (is : List Instruction) (x : ℕ) → AllExist n is → x < length is → Exists n (at is x)
+exist_at : (n : ℕ) (is : List Instruction) (x : ℕ) → AllExist n is → x < length is → Exists n (at is x)
 unfolding AllExist
-exist-at n [] x a l = absurd (omega arith)
-exist-at n (i ∷ is) zero a l = a.0
-exist-at n (i ∷ is) (suc x) a l = exist-at n is x a.1 (omega arith)
+exist_at n [] x a l = absurd (omega arith)
+exist_at n (i ∷ is) zero a l = a.0
+exist_at n (i ∷ is) (suc x) a l = exist_at n is x a.1 (omega arith)
 
-formula-exists : (n : ℕ) (e : Formula) (is : List Instruction) → Known n e → AllExist n is → AllExist n (formulaCode e is)
-unfolding Known AllExist formulaCode
-formula-exists n (signal k) is h a = (h, a)
-formula-exists n (constant b) is h a = (tt, a)
-formula-exists n (negated e) is h a = formula-exists n e _ h (tt, a)
-formula-exists n (combined o e f) is h a = formula-exists n e _ h.0 (formula-exists n f _ h.1 (tt, a))
+formula_exists : (n : ℕ) (e : Formula) (is : List Instruction) → Known n e → AllExist n is → AllExist n (formula_code e is)
+unfolding Known AllExist formula_code
+formula_exists n (signal k) is h a = (h, a)
+formula_exists n (constant b) is h a = (tt, a)
+formula_exists n (negated e) is h a = formula_exists n e _ h (tt, a)
+formula_exists n (combined o e f) is h a = formula_exists n e _ h.0 (formula_exists n f _ h.1 (tt, a))
 
 code-exists : (n x : ℕ) (ss : Actions) (is : List Instruction) → Keeps n ss → AllExist n is → AllExist n (code x ss is)
 unfolding Keeps AllExist code
 code-exists n x done is h a = a
-code-exists n x (assign k e d ss) is h a = formula-exists n e _ h.3 ((h.0, h.1), code-exists n _ ss is h.4 a)
+code-exists n x (assign k e d ss) is h a = formula_exists n e _ h.3 ((h.0, h.1), code-exists n _ ss is h.4 a)
 code-exists n x (branch e p q ss) is h a =
-    formula-exists n e _ h.1 (tt, code-exists n _ p _ h.2 (tt, code-exists n _ q _ h.3 (code-exists n _ ss is h.4 a)))
+    formula_exists n e _ h.1 (tt, code-exists n _ p _ h.2 (tt, code-exists n _ q _ h.3 (code-exists n _ ss is h.4 a)))
 code-exists n x (null ss) is h a = code-exists n x ss is h a
 
-all-exist : (n x : ℕ) (l : List Activity) → ((p : ℕ) → p < length l → Keeps n (get_or l p idle).body) → AllExist n (codeFrom x l)
-unfolding AllExist codeFrom
-all-exist n x [] h = tt
-all-exist n x (a ∷ l) h = code-exists n x a.body _ (h 0 (omega arith)) (all-exist n _ l (λ p g. h (suc p) (omega arith)))
+all_exist : (n x : ℕ) (l : List Activity) → ((p : ℕ) → p < length l → Keeps n (get_or l p idle).body) → AllExist n (code_from x l)
+unfolding AllExist code_from
+all_exist n x [] h = tt
+all_exist n x (a ∷ l) h = code-exists n x a.body _ (h 0 (omega arith)) (all_exist n _ l (λ p g. h (suc p) (omega arith)))
 
-length-all : (x : ℕ) (l : List Activity) → length (codeFrom x l) ≡ total l
-unfolding codeFrom total
-length-all x [] = refl
-length-all x (a ∷ l) = omega (arith, length-code a.body x (codeFrom (x + instructions a.body) l), length-all (x + instructions a.body) l)
+length_all : (x : ℕ) (l : List Activity) → length (code_from x l) ≡ total l
+unfolding code_from total
+length_all x [] = refl
+length_all x (a ∷ l) = omega (arith, length-code a.body x (code_from (x + instructions a.body) l), length_all (x + instructions a.body) l)
 
 module _ (c : Circuit) (s : Sized c) where
-  all-code : length (translate c).code ≡ total c.processes
+  all_code : length (translate c).code ≡ total c.processes
   unfolding translate
-  all-code = length-all 0 c.processes
+  all_code = length_all 0 c.processes
 
   wakes-few : (k : ℕ) → get_or (translate c).listeners k 0 < 2 ^ length c.processes
-  unfolding translate listenersOf
+  unfolding translate listeners_of
   wakes-few k =
       let l = c.processes in
       let n = length c.initial in
@@ -70,21 +70,21 @@ module _ (c : Circuit) (s : Sized c) where
       let below : word heard < 2 ^ length l = subst (λ m. word heard < 2 ^ m) (length-map l (λ a. member a.wakes k)) (word_below heard) in
       ⊎_elim
       (λ g.
-      let e : get_or (tabulate (listenersOf l) 0 n) k 0 ≡ listenersOf l k =
-      at-tabulate (listenersOf l) 0 0 n k g ∙ ap (listenersOf l) (omega arith) in
+      let e : get_or (tabulate (listeners_of l) 0 n) k 0 ≡ listeners_of l k =
+      at_tabulate (listeners_of l) 0 0 n k g ∙ ap (listeners_of l) (omega arith) in
       rw e below)
       (λ g.
-      let e = get_or-eq_default (tabulate (listenersOf l) 0 n) 0 {n = k} (omega (arith, length-tabulate (listenersOf l) 0 n)) in
+      let e = get_or-eq_default (tabulate (listeners_of l) 0 n) 0 {n = k} (omega (arith, length-tabulate (listeners_of l) 0 n)) in
       rw e (omega (arith, below)))
       (side k n)
 
   ends_at : (p : ℕ) → p < length c.processes
       → begins (translate c) (suc p) ≡ begins (translate c) p + instructions (get_or c.processes p idle).body
-  ends_at p h = omega (arith, begin-at c p (omega arith), begin-at c (suc p) (omega arith), base-next c.processes p h)
+  ends_at p h = omega (arith, begin_at c p (omega arith), begin_at c (suc p) (omega arith), base_next c.processes p h)
 
   covers : begins (translate c) (length c.processes) ≡ total c.processes
   unfolding base
-  covers = begin-at c (length c.processes) (omega arith) ∙ ap total (take-length c.processes)
+  covers = begin_at c (length c.processes) (omega arith) ∙ ap total (take-length c.processes)
 
   part_sound : (p : ℕ) → p < length c.processes → Sound (translate c).code (begins (translate c) p) (begins (translate c) (suc p))
   part_sound p h =
@@ -107,25 +107,25 @@ module _ (c : Circuit) (s : Sized c) where
       let x = begins (translate c) p in
       sym (or-false (assigns b k)) ∙ sym (posts-code b x [] k) ∙ sym (ap (λ is. posts is k) (part_at c p h)) ∙ g
 
-  exists-all : (x : ℕ) → x < length (translate c).code → Exists (length c.initial) (at (translate c).code x)
+  exists_all : (x : ℕ) → x < length (translate c).code → Exists (length c.initial) (at (translate c).code x)
   unfolding translate
-  exists-all x h = exist-at (length c.initial) (codeFrom 0 c.processes) x (all-exist (length c.initial) 0 c.processes s.keeps) h
+  exists_all x h = exist_at (length c.initial) (code_from 0 c.processes) x (all_exist (length c.initial) 0 c.processes s.keeps) h
 
   -- the theorem
-  pub fit-translation : FitTable (translate c)
+  pub fit_translation : FitTable (translate c)
   unfolding translate
-  fit-translation =
+  fit_translation =
       let n = as_many c in
-      let m = all-code in
+      let m = all_code in
       record {
-        fewSignals = s.fewSignals;
-        fewProcesses = omega (arith, s.fewProcesses);
-        fewInstructions = omega (arith, s.fewInstructions);
-        listening = length-tabulate (listenersOf c.processes) 0 (length c.initial);
+        few_signals = s.few_signals;
+        few_processes = omega (arith, s.few_processes);
+        few_instructions = omega (arith, s.few_instructions);
+        listening = length-tabulate (listeners_of c.processes) 0 (length c.initial);
         woken = λ k. rw n (wakes-few k);
         rising = λ p h. omega (arith, ends_at p (omega arith));
         cover = rw n (covers ∙ sym m);
-        exists = λ x h. exists-all x h;
+        exists = λ x h. exists_all x h;
         sound = λ p h. part_sound p (omega arith);
         alone = λ p q k h g a b. s.alone p q k (omega arith) (omega arith) (posts-alone p k (omega arith) a) (posts-alone q k (omega arith) b);
       }

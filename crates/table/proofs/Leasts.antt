@@ -9,7 +9,7 @@ use lib.Dec.{eqb}
 use lib.ListN.{get_or}
 use borrow.Author.Tests.{eq-eqb, eqb-true}
 use Rattle.laws.proofs.Cases.{split, side}
-use Rattle.rules.specs.Pending.{Change, Pending, dueIn, due, Least, nothing, first, lower, leastIn, least}
+use Rattle.rules.specs.Pending.{Change, Pending, due_in, due, Least, nothing, first, lower, least_in, least}
 use Rattle.rules.specs.Session.{Each}
 
 -- none is earlier
@@ -21,22 +21,22 @@ above_lower : (t a : ℕ) (l : Least) → Above t (lower a l) → (t ≤ a) × A
 above_lower t a nothing h = (h, tt)
 above_lower t a (first u) h = (omega arith, omega arith)
 
-above_in : (t : ℕ) (cs : List Change) (l : Least) → Above t (leastIn cs l) → Each (λ c. t ≤ c.time) cs × Above t l
-unfolding leastIn Each
+above_in : (t : ℕ) (cs : List Change) (l : Least) → Above t (least_in cs l) → Each (λ c. t ≤ c.time) cs × Above t l
+unfolding least_in Each
 above_in t [] l h = (tt, h)
 above_in t (c ∷ cs) l h =
-    let s = above_lower t c.time (leastIn cs l) h in
+    let s = above_lower t c.time (least_in cs l) h in
     let r = above_in t cs l s.1 in
     ((s.0, r.0), r.1)
 
-above-all : (t : ℕ) (p : Pending) → Above t (least p) → (k : ℕ) → Each (λ c. t ≤ c.time) (get_or p k [])
+above_all : (t : ℕ) (p : Pending) → Above t (least p) → (k : ℕ) → Each (λ c. t ≤ c.time) (get_or p k [])
 unfolding least Each
-above-all t [] h k = tt
-above-all t (cs ∷ p) h zero = (above_in t cs (least p) h).0
-above-all t (cs ∷ p) h (suc k) = above-all t p (above_in t cs (least p) h).1 k
+above_all t [] h k = tt
+above_all t (cs ∷ p) h zero = (above_in t cs (least p) h).0
+above_all t (cs ∷ p) h (suc k) = above_all t p (above_in t cs (least p) h).1 k
 
 pub none-earlier : (t : ℕ) (p : Pending) → least p ≡ first t → (k : ℕ) → Each (λ c. t ≤ c.time) (get_or p k [])
-none-earlier t p e = above-all t p (subst (Above t) (sym e) (omega arith))
+none-earlier t p e = above_all t p (subst (Above t) (sym e) (omega arith))
 
 -- something is pending there
 lower-from : (a t : ℕ) (l : Least) → lower a l ≡ first t → (a ≡ t) ⊎ (l ≡ first t)
@@ -45,30 +45,30 @@ lower-from a t (first u) h =
     let e : min a u ≡ t = cc in
     ⊎_elim (λ g. inl (omega arith)) (λ g. inr (let z : u ≡ t = omega arith in rw z)) (side a u)
 
-least-in : (t : ℕ) (cs : List Change) (l : Least) → leastIn cs l ≡ first t → (dueIn t cs ≡ true) ⊎ (l ≡ first t)
-unfolding leastIn dueIn
-least-in t [] l h = inr h
-least-in t (c ∷ cs) l h =
+least_in_lem : (t : ℕ) (cs : List Change) (l : Least) → least_in cs l ≡ first t → (due_in t cs ≡ true) ⊎ (l ≡ first t)
+unfolding least_in due_in
+least_in_lem t [] l h = inr h
+least_in_lem t (c ∷ cs) l h =
     ⊎_elim
     (λ e. inl (rw (eq-eqb c.time t e)))
-    (λ e. ⊎_elim (λ g. inl (rw g (or-true (eqb c.time t)))) (λ g. inr g) (least-in t cs l e))
-    (lower-from c.time t (leastIn cs l) h)
+    (λ e. ⊎_elim (λ g. inl (rw g (or-true (eqb c.time t)))) (λ g. inr g) (least_in_lem t cs l e))
+    (lower-from c.time t (least_in cs l) h)
 
-pub something-due : (t : ℕ) (p : Pending) → least p ≡ first t → due t p ≡ true
+pub something_due : (t : ℕ) (p : Pending) → least p ≡ first t → due t p ≡ true
 unfolding least due
-something-due t [] h = let z : ◌≡◌ {A = ℕ} 0 1 = cc in absurd (omega arith)
-something-due t (cs ∷ p) h =
-    ⊎_elim (λ e. rw e refl) (λ e. rw (something-due t p e) (or-true (dueIn t cs))) (least-in t cs (least p) h)
+something_due t [] h = let z : ◌≡◌ {A = ℕ} 0 1 = cc in absurd (omega arith)
+something_due t (cs ∷ p) h =
+    ⊎_elim (λ e. rw e refl) (λ e. rw (something_due t p e) (or-true (due_in t cs))) (least_in_lem t cs (least p) h)
 
 -- it is later than what all are later than
-due-later : (a t : ℕ) (cs : List Change) → dueIn t cs ≡ true → Each (λ c. a < c.time) cs → a < t
-unfolding dueIn Each
+due-later : (a t : ℕ) (cs : List Change) → due_in t cs ≡ true → Each (λ c. a < c.time) cs → a < t
+unfolding due_in Each
 due-later a t [] h g = absurd (true≢false (sym h))
 due-later a t (c ∷ cs) h g =
     split (eqb c.time t) (λ e. omega (arith, eqb-true c.time t e, g.0)) (λ e. due-later a t cs (rw e at h) g.1)
 
-pub later-than : (a t : ℕ) (p : Pending) → due t p ≡ true → ((k : ℕ) → Each (λ c. a < c.time) (get_or p k [])) → a < t
+pub later_than : (a t : ℕ) (p : Pending) → due t p ≡ true → ((k : ℕ) → Each (λ c. a < c.time) (get_or p k [])) → a < t
 unfolding due
-later-than a t [] h g = absurd (true≢false (sym h))
-later-than a t (cs ∷ p) h g =
-    split (dueIn t cs) (λ e. due-later a t cs e (g 0)) (λ e. later-than a t p (rw e at h) (λ k. g (suc k)))
+later_than a t [] h g = absurd (true≢false (sym h))
+later_than a t (cs ∷ p) h g =
+    split (due_in t cs) (λ e. due-later a t cs e (g 0)) (λ e. later_than a t p (rw e at h) (λ k. g (suc k)))

@@ -73,17 +73,17 @@ module _ (f : ℕ → Runner) (each : (k : ℕ) → Local (f k)) where
     single (suc i) n (λ j k l a b c e. h j k l (omega arith) (omega arith) (omega arith) e),
   )
 
-not-both : (t : Table) → FitTable t → (j k l : ℕ) → j < k → k < length t.ends → posts (part t j) l ≡ true → posts (part t k) l ≡ false
-not-both t f j k l a b e =
+not_both : (t : Table) → FitTable t → (j k l : ℕ) → j < k → k < length t.ends → posts (part t j) l ≡ true → posts (part t k) l ≡ false
+not_both t f j k l a b e =
     split (posts (part t k) l)
     (λ g. let z : j ≡ k = f.alone j k l (omega arith) b e g in absurd (omega arith))
     (λ g. g)
 
 pub single-drivers : (t : Table) → FitTable t → Single (runners t)
 unfolding runners runner
-single-drivers t f = single (runner t) (local t) 0 (length t.ends) (λ j k l a b c e. not-both t f j k l b (omega arith) e)
+single-drivers t f = single (runner t) (local t) 0 (length t.ends) (λ j k l a b c e. not_both t f j k l b (omega arith) e)
 
 -- the theorem
-pub one-after-the-other : (t : Table) → FitTable t → (vs : Values) (now : ℕ) (awake : (ℕ → Bool) → Bool) (p : Pending) (n : ℕ)
+pub one_after_the_other : (t : Table) → FitTable t → (vs : Values) (now : ℕ) (awake : (ℕ → Bool) → Bool) (p : Pending) (n : ℕ)
     → joined (runners t) vs now awake p (record { pending = p; steps = n }) ≡ threaded (runners t) vs now awake (record { pending = p; steps = n })
-one-after-the-other t f vs now awake p n = threaded-joined vs now awake p (runners t) n (single-drivers t f)
+one_after_the_other t f vs now awake p n = threaded-joined vs now awake p (runners t) n (single-drivers t f)

@@ -54,31 +54,31 @@ module _ (drives : ℕ → Bool) (n : ℕ) (vs : Values) (now : ℕ) where
   obeys x zero (test t ∷ is) ops p m e d o = obeys (suc x) _ is _ p (suc m) e.1 d o
   obeys x zero (skip t ∷ is) ops p m e d o = obeys (suc x) _ is ops p (suc m) e.1 d o
 
-exist-all : (n : ℕ) (is : List Instruction) → ((k : ℕ) → k < length is → Exists n (at is k)) → AllExist n is
+exist_all : (n : ℕ) (is : List Instruction) → ((k : ℕ) → k < length is → Exists n (at is k)) → AllExist n is
 unfolding AllExist
-exist-all n [] h = tt
-exist-all n (i ∷ is) h = (h 0 (omega arith), exist-all n is (λ k l. h (suc k) (omega arith)))
+exist_all n [] h = tt
+exist_all n (i ∷ is) h = (h 0 (omega arith), exist_all n is (λ k l. h (suc k) (omega arith)))
 
 -- what one of them drives is driven
-pub driven-by : (f : ℕ → Runner) (i n p k : ℕ) → i ≤ p → p < i + n → (f p).drives k ≡ true → driven (tabulate f i n) k ≡ true
+pub driven_by : (f : ℕ → Runner) (i n p k : ℕ) → i ≤ p → p < i + n → (f p).drives k ≡ true → driven (tabulate f i n) k ≡ true
 unfolding tabulate driven
-driven-by f i zero p k lo hi h = absurd (omega arith)
-driven-by f i (suc n) p k lo hi h =
+driven_by f i zero p k lo hi h = absurd (omega arith)
+driven_by f i (suc n) p k lo hi h =
     ⊎_elim
-    (λ l. rw (driven-by f (suc i) n p k l (omega arith) h) (or-true ((f i).drives k)))
+    (λ l. rw (driven_by f (suc i) n p k l (omega arith) h) (or-true ((f i).drives k)))
     (λ l. let e : p ≡ i = omega arith in rw (subst (λ j. (f j).drives k ≡ true) e h) refl)
     (side i p)
 
-all-obedient : (f : ℕ → Runner) (drives : ℕ → Bool) (n i m : ℕ) → ((p : ℕ) → i ≤ p → p < i + m → Obedient drives n (f p)) → AllObedient drives n (tabulate f i m)
+all_obedient : (f : ℕ → Runner) (drives : ℕ → Bool) (n i m : ℕ) → ((p : ℕ) → i ≤ p → p < i + m → Obedient drives n (f p)) → AllObedient drives n (tabulate f i m)
 unfolding tabulate AllObedient
-all-obedient f drives n i zero h = tt
-all-obedient f drives n i (suc m) h =
-    (h i (omega arith) (omega arith), all-obedient f drives n (suc i) m (λ p lo hi. h p (omega arith) (omega arith)))
+all_obedient f drives n i zero h = tt
+all_obedient f drives n i (suc m) h =
+    (h i (omega arith) (omega arith), all_obedient f drives n (suc i) m (λ p lo hi. h p (omega arith) (omega arith)))
 
 module _ (t : Table) (f : FitTable t) where
   part-exists : (p : ℕ) → p < length t.ends → AllExist (length t.initial) (part t p)
   part-exists p l =
-      exist-all (length t.initial) (part t p)
+      exist_all (length t.initial) (part t p)
       (λ k h. subst (Exists (length t.initial)) (part-place t f p k l h)
       (f.exists (begins t p + k) (omega (arith, length_part t f p l, in_code t f p l))))
 
@@ -86,8 +86,8 @@ module _ (t : Table) (f : FitTable t) where
   unfolding Obedient runners runner
   obedient p l vs now q m o =
       obeys (driven (runners t)) (length t.initial) vs now (begins t p) 0 (part t p) [] q m (part-exists p l)
-      (λ k h. driven-by (runner t) 0 (length t.ends) p k (omega arith) (omega arith) h) o
+      (λ k h. driven_by (runner t) 0 (length t.ends) p k (omega arith) (omega arith) h) o
 
   pub table-obedient : AllObedient (driven (runners t)) (length t.initial) (runners t)
   unfolding runners
-  table-obedient = all-obedient (runner t) (driven (runners t)) (length t.initial) 0 (length t.ends) (λ p lo hi. obedient p (omega arith))
+  table-obedient = all_obedient (runner t) (driven (runners t)) (length t.initial) 0 (length t.ends) (λ p lo hi. obedient p (omega arith))

@@ -11,20 +11,20 @@ use lib.Seq.{get_or-set_same, get_or-set_other, set_out}
 use borrow.Author.Tests.{ltb-true}
 use Rattle.laws.proofs.Cases.{same_or, split, side}
 use Rattle.words.specs.Unit.{longest}
-use Rattle.rules.specs.Sizes.{mostPending}
+use Rattle.rules.specs.Sizes.{most_pending}
 use Rattle.rules.specs.Formulas.{Values}
 use Rattle.rules.specs.Pending.{Change, Pending, before, post, kept}
 use Rattle.rules.specs.Runner.{Left, Runner, over, join, joined}
 use Rattle.rules.specs.Session.{Each, Rising}
 use Rattle.table.proofs.Outcomes.{Gives, gives_then}
-use Rattle.table.proofs.Overlays.{length_over, over-driven, over-other}
-use Rattle.table.proofs.Changes.{each-before, each-kept, each_append, before-earlier, rising-before, rising-kept, rising-append, length-kept}
+use Rattle.table.proofs.Overlays.{length_over, over-driven, over_other}
+use Rattle.table.proofs.Changes.{each_before, each_kept, each_append, before-earlier, rising-before, rising-kept, rising-append, length-kept}
 
 -- a signal's changes at one time of a run: none before the time, none more than 10^18 after it
 pub record Tidy (low high : ℕ) (cs : List Change) : Type 0 where
   pub reached : Each (λ c. low ≤ c.time) cs
   pub near : Each (λ c. c.time ≤ high) cs
-  pub few : length cs ≤ mostPending
+  pub few : length cs ≤ most_pending
   pub rising : Rising cs
 
 -- those of all signals, none where no process drives
@@ -37,13 +37,13 @@ no_change : (low high : ℕ) → Tidy low high []
 unfolding Each Rising
 no_change low high = record { reached = tt; near = tt; few = omega arith; rising = tt }
 
-tidy-post : (low high : ℕ) (cs : List Change) (c : Change) → low ≤ c.time → c.time ≤ high → length (before c.time cs) < mostPending → Tidy low high cs
+tidy-post : (low high : ℕ) (cs : List Change) (c : Change) → low ≤ c.time → c.time ≤ high → length (before c.time cs) < most_pending → Tidy low high cs
     → Tidy low high (before c.time cs ++ (c ∷ []))
 tidy-post low high cs c lo hi room h =
     let t = c.time in
     record {
-      reached = each_append _ (before t cs) c (each-before _ t cs h.reached) lo;
-      near = each_append _ (before t cs) c (each-before _ t cs h.near) hi;
+      reached = each_append _ (before t cs) c (each_before _ t cs h.reached) lo;
+      near = each_append _ (before t cs) c (each_before _ t cs h.near) hi;
       few = omega (arith, length-append (before t cs) (c ∷ []));
       rising = rising-append (before t cs) c (rising-before t cs h.rising) (before-earlier t cs);
     }
@@ -51,8 +51,8 @@ tidy-post low high cs c lo hi room h =
 tidy-kept : (low high t : ℕ) (cs : List Change) → Tidy low high cs → Tidy low high (kept t cs)
 tidy-kept low high t cs h =
     record {
-      reached = each-kept _ t cs h.reached;
-      near = each-kept _ t cs h.near;
+      reached = each_kept _ t cs h.reached;
+      near = each_kept _ t cs h.near;
       few = omega (arith, length-kept t cs, h.few);
       rising = rising-kept t cs h.rising;
     }
@@ -81,8 +81,8 @@ module _ (driven : ℕ → Bool) (n low high : ℕ) where
       → Gives (Orderly driven n low high) (post k c p)
   unfolding post
   orderly-post p k c d lo hi h =
-      split (ltb (length (before c.time (get_or p k []))) mostPending)
-      (λ e. rw e (orderly-set p k _ d (tidy-post low high (get_or p k []) c lo hi (ltb-true _ mostPending e) (h.tidy k)) h))
+      split (ltb (length (before c.time (get_or p k []))) most_pending)
+      (λ e. rw e (orderly-set p k _ d (tidy-post low high (get_or p k []) c lo hi (ltb-true _ most_pending e) (h.tidy k)) h))
       (λ e. rw e tt)
 
   pub orderly-over : (d : ℕ → Bool) (q p : Pending) → Orderly driven n low high q → Orderly driven n low high p → Orderly driven n low high (over d q p)
@@ -90,8 +90,8 @@ module _ (driven : ℕ → Bool) (n low high : ℕ) where
       let l : length q ≡ length p = g.agrees ∙ sym h.agrees in
       record {
         agrees = length_over d q p ∙ h.agrees;
-        tidy = λ k. split (d k) (λ e. rw (over-driven d q p k l e) (g.tidy k)) (λ e. rw (over-other d q p k e) (h.tidy k));
-        idle = λ k f. split (d k) (λ e. over-driven d q p k l e ∙ g.idle k f) (λ e. over-other d q p k e ∙ h.idle k f);
+        tidy = λ k. split (d k) (λ e. rw (over-driven d q p k l e) (g.tidy k)) (λ e. rw (over_other d q p k e) (h.tidy k));
+        idle = λ k f. split (d k) (λ e. over-driven d q p k l e ∙ g.idle k f) (λ e. over_other d q p k e ∙ h.idle k f);
       }
 
   pub orderly-kept : (t : ℕ) (p : Pending) → Orderly driven n low high p → Orderly driven n low high (map (kept t) p)
@@ -103,17 +103,17 @@ module _ (driven : ℕ → Bool) (n low high : ℕ) where
         idle = λ k f. get_or-map (kept t) p k [] ∙ ap (kept t) (h.idle k f);
       }
 
-nothing-in : (n k : ℕ) (none : List Change) → get_or (replicate n none) k none ≡ none
-nothing-in zero k none = refl
-nothing-in (suc n) zero none = refl
-nothing-in (suc n) (suc k) none = nothing-in n k none
+nothing_in : (n k : ℕ) (none : List Change) → get_or (replicate n none) k none ≡ none
+nothing_in zero k none = refl
+nothing_in (suc n) zero none = refl
+nothing_in (suc n) (suc k) none = nothing_in n k none
 
 pub orderly-nothing : (driven : ℕ → Bool) (n low high : ℕ) → Orderly driven n low high (replicate n [])
 orderly-nothing driven n low high =
     record {
       agrees = length-replicate n [];
-      tidy = λ k. rw (nothing-in n k []) (no_change low high);
-      idle = λ k f. nothing-in n k [];
+      tidy = λ k. rw (nothing_in n k []) (no_change low high);
+      idle = λ k f. nothing_in n k [];
     }
 
 -- what a process leaves, run at the time now, is in order

@@ -8,7 +8,7 @@ use lib.Dec.{ltb}
 use lib.ListN.{length, get_or, set, length-set}
 use Rattle.laws.specs.Pick.{pick}
 use Rattle.laws.proofs.Cases.{split}
-use Rattle.rules.specs.Sizes.{mostPending}
+use Rattle.rules.specs.Sizes.{most_pending}
 use Rattle.rules.specs.Outcome.{gives, ◌then◌}
 use Rattle.rules.specs.Pending.{Change, Pending, before, post}
 use Rattle.rules.specs.Runner.{over}
@@ -29,12 +29,12 @@ over-driven d (b ∷ q) [] k l h = absurd (omega arith)
 over-driven d (b ∷ q) (c ∷ p) zero l h = rw h
 over-driven d (b ∷ q) (c ∷ p) (suc k) l h = over-driven (λ k. d (suc k)) q p k (omega arith) h
 
-pub over-other : (d : ℕ → Bool) (q p : Pending) (k : ℕ) → d k ≡ false → get_or (over d q p) k [] ≡ get_or p k []
+pub over_other : (d : ℕ → Bool) (q p : Pending) (k : ℕ) → d k ≡ false → get_or (over d q p) k [] ≡ get_or p k []
 unfolding over
-over-other d q [] k h = refl
-over-other d [] (c ∷ p) k h = refl
-over-other d (b ∷ q) (c ∷ p) zero h = rw h
-over-other d (b ∷ q) (c ∷ p) (suc k) h = over-other (λ k. d (suc k)) q p k h
+over_other d q [] k h = refl
+over_other d [] (c ∷ p) k h = refl
+over_other d (b ∷ q) (c ∷ p) zero h = rw h
+over_other d (b ∷ q) (c ∷ p) (suc k) h = over_other (λ k. d (suc k)) q p k h
 
 over-set : (d : ℕ → Bool) (q p : Pending) (k : ℕ) (v : List Change) → length q ≡ length p → d k ≡ true
     → set (over d q p) k v ≡ over d (set q k v) p
@@ -46,14 +46,14 @@ over-set d (b ∷ q) (c ∷ p) zero v l h = rw h
 over-set d (b ∷ q) (c ∷ p) (suc k) v l h = ap (λ r. pick (d 0) b c ∷ r) (over-set (λ k. d (suc k)) q p k v (omega arith) h)
 
 -- where q agrees with p on the driven signals nothing changes
-pub over-same : (d : ℕ → Bool) (q p : Pending) → length q ≡ length p → ((k : ℕ) → d k ≡ true → get_or q k [] ≡ get_or p k []) → over d q p ≡ p
+pub over_same : (d : ℕ → Bool) (q p : Pending) → length q ≡ length p → ((k : ℕ) → d k ≡ true → get_or q k [] ≡ get_or p k []) → over d q p ≡ p
 unfolding over
-over-same d q [] l h = refl
-over-same d [] (c ∷ p) l h = refl
-over-same d (b ∷ q) (c ∷ p) l h =
+over_same d q [] l h = refl
+over_same d [] (c ∷ p) l h = refl
+over_same d (b ∷ q) (c ∷ p) l h =
     ap₂ (λ x r. x ∷ r)
     (split (d 0) (λ e. rw e (h 0 e)) (λ e. rw e refl))
-    (over-same (λ k. d (suc k)) q p (omega arith) (λ k. h (suc k)))
+    (over_same (λ k. d (suc k)) q p (omega arith) (λ k. h (suc k)))
 
 -- a post for a driven signal is a post in q
 module _ (d : ℕ → Bool) (p : Pending) where
@@ -62,9 +62,9 @@ module _ (d : ℕ → Bool) (p : Pending) where
   unfolding post
   over_post k c q l h =
       rw (over-driven d q p k l h)
-      (split (ltb (length (before c.time (get_or q k []))) mostPending) (λ e. rw e (ap gives (over-set d q p k _ l h))) (λ e. rw e refl))
+      (split (ltb (length (before c.time (get_or q k []))) most_pending) (λ e. rw e (ap gives (over-set d q p k _ l h))) (λ e. rw e refl))
 
 pub length-post : (k : ℕ) (c : Change) (q : Pending) → Gives (λ r. length r ≡ length q) (post k c q)
 unfolding post
 length-post k c q =
-    split (ltb (length (before c.time (get_or q k []))) mostPending) (λ e. rw e (length-set q k _)) (λ e. rw e tt)
+    split (ltb (length (before c.time (get_or q k []))) most_pending) (λ e. rw e (length-set q k _)) (λ e. rw e tt)

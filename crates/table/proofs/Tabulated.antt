@@ -15,14 +15,14 @@ module _ {A : Type 0} where
   length-tabulate f i zero = refl
   length-tabulate f i (suc n) = ap suc (length-tabulate f (suc i) n)
 
-  pub at-tabulate : (f : ℕ → A) (d : A) (i n k : ℕ) → k < n → get_or (tabulate f i n) k d ≡ f (i + k)
+  pub at_tabulate : (f : ℕ → A) (d : A) (i n k : ℕ) → k < n → get_or (tabulate f i n) k d ≡ f (i + k)
   unfolding tabulate
-  at-tabulate f d i zero k l = absurd (omega arith)
-  at-tabulate f d i (suc n) zero l = ap f (omega arith)
-  at-tabulate f d i (suc n) (suc k) l = at-tabulate f d (suc i) n k (omega arith) ∙ ap f (omega arith)
+  at_tabulate f d i zero k l = absurd (omega arith)
+  at_tabulate f d i (suc n) zero l = ap f (omega arith)
+  at_tabulate f d i (suc n) (suc k) l = at_tabulate f d (suc i) n k (omega arith) ∙ ap f (omega arith)
 
-  pub at-tabulated : (f : ℕ → A) (d : A) (n k : ℕ) → k < n → get_or (tabulate f 0 n) k d ≡ f k
-  at-tabulated f d n k l = at-tabulate f d 0 n k l ∙ ap f (omega arith)
+  pub at_tabulated : (f : ℕ → A) (d : A) (n k : ℕ) → k < n → get_or (tabulate f 0 n) k d ≡ f k
+  at_tabulated f d n k l = at_tabulate f d 0 n k l ∙ ap f (omega arith)
 
   pub map-tabulate : {B : Type 0} (f : B → A) (g : ℕ → A) (d : B) (l : List B) (i : ℕ)
       → ((k : ℕ) → k < length l → f (get_or l k d) ≡ g (i + k)) → map f l ≡ tabulate g i (length l)

@@ -11,7 +11,7 @@ use Rattle.rules.specs.Formulas.{Values}
 use Rattle.rules.specs.Pending.{Pending}
 use Rattle.rules.specs.Runner.{Left, Runner, over, joined}
 use Rattle.table.proofs.Outcomes.{onward₂}
-use Rattle.table.proofs.Overlays.{length_over, over-other, over-same}
+use Rattle.table.proofs.Overlays.{length_over, over_other, over_same}
 
 -- each from what the one before left
 abbrev pub thread : Runner → Bool → Values → ℕ → Left → Outcome Left
@@ -51,14 +51,14 @@ fresh r [] p acc a h f = tt
 fresh r (s ∷ rs) p acc a h f = (
   (λ k e. split (r.drives k)
       (λ t. let z : true ≡ false = sym e ∙ h.0 k t in absurd (true≢false z))
-      (λ t. f.0 k e ∙ sym (over-other r.drives a acc k t))),
+      (λ t. f.0 k e ∙ sym (over_other r.drives a acc k t))),
   fresh r rs p acc a h.1 f.1,
 )
 
-all-fresh : (p : Pending) (rs : List Runner) → Fresh p p rs
+all_fresh : (p : Pending) (rs : List Runner) → Fresh p p rs
 unfolding Fresh
-all-fresh p [] = tt
-all-fresh p (r ∷ rs) = ((λ k e. refl), all-fresh p rs)
+all_fresh p [] = tt
+all_fresh p (r ∷ rs) = ((λ k e. refl), all_fresh p rs)
 
 module _ (vs : Values) (now : ℕ) (awake : (ℕ → Bool) → Bool) (p : Pending) where
   threads : (rs : List Runner) (so : Left) → Single rs → length p ≡ length so.pending → Fresh p so.pending rs
@@ -69,7 +69,7 @@ module _ (vs : Values) (now : ℕ) (awake : (ℕ → Bool) → Bool) (p : Pendin
       split (awake r.wakes)
       (λ e.
       let g : r.goes vs now so.pending so.steps ≡ (r.goes vs now p so.steps then (λ a. gives (laid r.drives so.pending a))) =
-      ap (λ x. r.goes vs now x so.steps) (sym (over-same r.drives p so.pending l f.0))
+      ap (λ x. r.goes vs now x so.steps) (sym (over_same r.drives p so.pending l f.0))
       ∙ s.0 vs now p so.pending so.steps l in
       rw (e, g)
       (onward₂ (r.goes vs now p so.steps) _ _ _ _
@@ -79,4 +79,4 @@ module _ (vs : Values) (now : ℕ) (awake : (ℕ → Bool) → Bool) (p : Pendin
 
   pub threaded-joined : (rs : List Runner) (n : ℕ) → Single rs
       → joined rs vs now awake p (record { pending = p; steps = n }) ≡ threaded rs vs now awake (record { pending = p; steps = n })
-  threaded-joined rs n s = threads rs (record { pending = p; steps = n }) s refl (all-fresh p rs)
+  threaded-joined rs n s = threads rs (record { pending = p; steps = n }) s refl (all_fresh p rs)

@@ -15,7 +15,7 @@ use Rattle.rules.specs.Sized.{instructions}
 use Rattle.table.proofs.Outcomes.{onward, onward₂}
 use Rattle.table.specs.Instructions.{Instruction, negation, binary}
 use Rattle.table.specs.Machine.{does, walk}
-use Rattle.table.specs.Translation.{formulaCode, code}
+use Rattle.table.specs.Translation.{formula_code, code}
 
 module _ (vs : Values) (now : ℕ) where
   -- the same place, the same number to pass and the same steps, however they are written
@@ -25,8 +25,8 @@ module _ (vs : Values) (now : ℕ) where
 
   -- a formula's instructions leave its value on top of the operands; addresses and steps are given up to an equation
   evaluates : (e : Formula) (x n : ℕ) (is : List Instruction) (ops : List Bool) (p : Pending) {y m : ℕ} → x + size e ≡ y → n + size e ≡ m
-      → walk vs now x 0 (formulaCode e is) ops p n ≡ walk vs now y 0 is (value vs e ∷ ops) p m
-  unfolding walk does formulaCode value size
+      → walk vs now x 0 (formula_code e is) ops p n ≡ walk vs now y 0 is (value vs e ∷ ops) p m
+  unfolding walk does formula_code value size
   evaluates (signal k) x n is ops p hy hm = place is _ p (omega arith) refl (omega arith)
   evaluates (constant b) x n is ops p hy hm = place is _ p (omega arith) refl (omega arith)
   evaluates (negated e) x n is ops p hy hm = evaluates e x n _ ops p refl refl ∙ place is _ p (omega arith) refl (omega arith)
@@ -34,16 +34,16 @@ module _ (vs : Values) (now : ℕ) where
       evaluates a x n _ ops p refl refl ∙ evaluates b _ _ _ _ p refl refl ∙ place is _ p (omega arith) refl (omega arith)
 
   -- a formula's instructions are passed over, and then j more
-  passes-formula : (e : Formula) (x j n : ℕ) (is : List Instruction) (ops : List Bool) (p : Pending) {y k : ℕ} → size e + j ≡ k → x + size e ≡ y
-      → walk vs now x k (formulaCode e is) ops p n ≡ walk vs now y j is ops p n
-  unfolding walk formulaCode size
-  passes-formula (signal i) x j n is ops p {y} {k} hk hy = let h : k ≡ suc j = omega arith in rw h (place is ops p (omega arith) refl refl)
-  passes-formula (constant b) x j n is ops p {y} {k} hk hy = let h : k ≡ suc j = omega arith in rw h (place is ops p (omega arith) refl refl)
-  passes-formula (negated e) x j n is ops p hk hy =
-      passes-formula e x (suc j) n _ ops p (omega arith) refl ∙ place is ops p (omega arith) refl refl
-  passes-formula (combined o a b) x j n is ops p hk hy =
-      passes-formula a x (size b + suc j) n _ ops p (omega arith) refl
-      ∙ passes-formula b _ (suc j) n _ ops p refl refl
+  passes_formula : (e : Formula) (x j n : ℕ) (is : List Instruction) (ops : List Bool) (p : Pending) {y k : ℕ} → size e + j ≡ k → x + size e ≡ y
+      → walk vs now x k (formula_code e is) ops p n ≡ walk vs now y j is ops p n
+  unfolding walk formula_code size
+  passes_formula (signal i) x j n is ops p {y} {k} hk hy = let h : k ≡ suc j = omega arith in rw h (place is ops p (omega arith) refl refl)
+  passes_formula (constant b) x j n is ops p {y} {k} hk hy = let h : k ≡ suc j = omega arith in rw h (place is ops p (omega arith) refl refl)
+  passes_formula (negated e) x j n is ops p hk hy =
+      passes_formula e x (suc j) n _ ops p (omega arith) refl ∙ place is ops p (omega arith) refl refl
+  passes_formula (combined o a b) x j n is ops p hk hy =
+      passes_formula a x (size b + suc j) n _ ops p (omega arith) refl
+      ∙ passes_formula b _ (suc j) n _ ops p refl refl
       ∙ place is ops p (omega arith) refl refl
 
   -- and so are those of statements
@@ -52,10 +52,10 @@ module _ (vs : Values) (now : ℕ) where
   unfolding walk code instructions
   passes done x y j n is ops p hk hz = place is ops p (omega arith) (omega arith) refl
   passes (assign i e d ss) x y j n is ops p hk hz =
-      passes-formula e x (suc (instructions ss + j)) n _ ops p (omega arith) refl ∙ passes ss _ _ j n is ops p refl (omega arith)
+      passes_formula e x (suc (instructions ss + j)) n _ ops p (omega arith) refl ∙ passes ss _ _ j n is ops p refl (omega arith)
   passes (branch e a b ss) x y j n is ops p hk hz =
       let behind = instructions b + (instructions ss + j) in
-      passes-formula e x (suc (instructions a + suc behind)) n _ ops p (omega arith) refl
+      passes_formula e x (suc (instructions a + suc behind)) n _ ops p (omega arith) refl
       ∙ passes a _ _ (suc behind) n _ ops p refl refl
       ∙ passes b _ _ (instructions ss + j) n _ ops p refl refl
       ∙ passes ss _ _ j n is ops p refl (omega arith)
@@ -93,16 +93,16 @@ module _ (vs : Values) (now : ℕ) where
   meaning ss x p n = runs ss n [] [] p refl refl refl
 
 -- the code has as many instructions as are counted over the statements
-pub length-formula : (e : Formula) (is : List Instruction) → length (formulaCode e is) ≡ size e + length is
-unfolding formulaCode size
-length-formula (signal k) is = omega arith
-length-formula (constant b) is = omega arith
-length-formula (negated e) is = omega (arith, length-formula e (negation ∷ is))
-length-formula (combined o a b) is = omega (arith, length-formula a (formulaCode b (binary o ∷ is)), length-formula b (binary o ∷ is))
+pub length_formula : (e : Formula) (is : List Instruction) → length (formula_code e is) ≡ size e + length is
+unfolding formula_code size
+length_formula (signal k) is = omega arith
+length_formula (constant b) is = omega arith
+length_formula (negated e) is = omega (arith, length_formula e (negation ∷ is))
+length_formula (combined o a b) is = omega (arith, length_formula a (formula_code b (binary o ∷ is)), length_formula b (binary o ∷ is))
 
 pub length-code : (ss : Actions) (x : ℕ) (is : List Instruction) → length (code x ss is) ≡ instructions ss + length is
 unfolding code instructions
 length-code done x is = omega arith
-length-code (assign k e d ss) x is = simp (length-formula, length-code ss) (omega arith)
-length-code (branch e a b ss) x is = simp (length-formula, length-code a, length-code b, length-code ss) (omega arith)
+length-code (assign k e d ss) x is = simp (length_formula, length-code ss) (omega arith)
+length-code (branch e a b ss) x is = simp (length_formula, length-code a, length-code b, length-code ss) (omega arith)
 length-code (null ss) x is = length-code ss x is

@@ -4,7 +4,7 @@ mod say;
 ghost use Rattle.std.specs.Prelude.{◌≡◌, false, ◌≤◌, length};
 ghost use Rattle.layout.specs.TableWords.{FitTableWords};
 ghost use Rattle.cells.specs.Cells.{FitFor};
-ghost use Rattle.machine.specs.Inside.Steps.{signalsOf};
+ghost use Rattle.machine.specs.Inside.Steps.{signals_of};
 ghost use Rattle.machine.specs.Inside.Relays.{Relayed};
 
 use heading::{Headed, header};
@@ -32,12 +32,12 @@ fn advance(
     count: usize,
 ) -> Told
     requires fit_table_words { FitTableWords table.now }
-    requires fit_for { FitFor (signalsOf table.now) cells.old }
+    requires fit_for { FitFor (signals_of table.now) cells.old }
     requires stop_bound { stop ≤ 1000000000000000000 }
     requires out_len { length out.old ≡ 4096 }
     requires count_in_bounds { count ≤ length lines.old }
     requires relayed { Relayed table.now relays.now }
-    ensures fit_for_2 { result.last ≡ false → FitFor (signalsOf table.now) cells.new }
+    ensures fit_for_2 { result.last ≡ false → FitFor (signals_of table.now) cells.new }
     ensures count_in_bounds_2 { result.count ≤ length lines.new }
 {
     match forward(cells, table, &table[..0], relays, stop, out) {
@@ -80,7 +80,7 @@ fn go_on(
     first: usize,
 )
     requires fit_table_words { FitTableWords table.now }
-    requires fit_for { FitFor (signalsOf table.now) cells.old }
+    requires fit_for { FitFor (signals_of table.now) cells.old }
     requires stop_bound { stop ≤ 1000000000000000000 }
     requires out_len { length out.old ≡ 4096 }
     requires lines_len { length lines.old ≡ 36864 }

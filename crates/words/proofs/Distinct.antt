@@ -10,8 +10,8 @@ use lib.Dec.{T, eqb}
 use lib.ListN.{length, get_or}
 use Rattle.laws.specs.Pick.{pick, same_list}
 use Rattle.laws.specs.Text.{bytes}
-use Rattle.laws.proofs.Table.{first_passes, others-pass}
-use Rattle.words.specs.Vocabulary.{Row, subset, others, vocabulary, rowFrom, row_of}
+use Rattle.laws.proofs.Table.{first_passes, others_pass}
+use Rattle.words.specs.Vocabulary.{Row, subset, others, vocabulary, row_from, row_of}
 use Rattle.words.specs.Token.{foreign}
 
 abbrev word_at : List Row → ℕ → List ℕ
@@ -23,7 +23,7 @@ own k [] = true
 own k (r ∷ rows) = let others = own (suc k) rows in pick (eqb (row_of (bytes r.spelling)) k) others false
 
 all_own : T (own 0 vocabulary)
-unfolding subset others vocabulary rowFrom row_of same_list
+unfolding subset others vocabulary row_from row_of same_list
 all_own = tt
 
 own_at : (i : ℕ) (rows : List Row) → T (own i rows) → (k : ℕ) → k < length rows → row_of (word_at rows k) ≡ i + k
@@ -32,7 +32,7 @@ own_at i (r ∷ rows) t zero h =
     let z : i ≡ i + 0 = omega arith in
     eqb-true _ _ (first_passes (eqb (row_of (bytes r.spelling)) i) (own (suc i) rows) t) ∙ z
 own_at i (r ∷ rows) t (suc k) h =
-    let e = own_at (suc i) rows (others-pass (eqb (row_of (bytes r.spelling)) i) (own (suc i) rows) t) k (omega arith) in
+    let e = own_at (suc i) rows (others_pass (eqb (row_of (bytes r.spelling)) i) (own (suc i) rows) t) k (omega arith) in
     let z : suc i + k ≡ i + suc k = omega arith in
     e ∙ z
 

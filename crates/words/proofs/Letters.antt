@@ -4,19 +4,19 @@ use mathlib.Core.Path.{◌≡◌}
 use Prim.Native.Nat.{ℕ, ◌+◌, ◌-◌, ◌<◌, ◌≤◌}
 use native.Mathlib.Omega.{arith}
 use Rattle.laws.proofs.Ranges.{Ranged, ranged, below, inside, above}
-use Rattle.words.specs.Vocabulary.{lowerOf}
-use Rattle.words.specs.Inside.Codes.{letterOf}
+use Rattle.words.specs.Vocabulary.{lower_of}
+use Rattle.words.specs.Inside.Codes.{letter_of}
 
 pub data Letter (b : ℕ) : Type 0 where
-  upper : 65 ≤ b → b ≤ 90 → lowerOf b ≡ b + 32 → letterOf b ≡ b - 64 → Letter b
-  small : 97 ≤ b → b ≤ 122 → lowerOf b ≡ b → letterOf b ≡ b - 96 → Letter b
-  under : b < 65 → lowerOf b ≡ b → letterOf b ≡ 27 → Letter b
-  between : 90 < b → b < 97 → lowerOf b ≡ b → letterOf b ≡ 27 → Letter b
-  over : 122 < b → lowerOf b ≡ b → letterOf b ≡ 27 → Letter b
+  upper : 65 ≤ b → b ≤ 90 → lower_of b ≡ b + 32 → letter_of b ≡ b - 64 → Letter b
+  small : 97 ≤ b → b ≤ 122 → lower_of b ≡ b → letter_of b ≡ b - 96 → Letter b
+  under : b < 65 → lower_of b ≡ b → letter_of b ≡ 27 → Letter b
+  between : 90 < b → b < 97 → lower_of b ≡ b → letter_of b ≡ 27 → Letter b
+  over : 122 < b → lower_of b ≡ b → letter_of b ≡ 27 → Letter b
 
-pub letter-of : (b : ℕ) → Letter b
-unfolding letterOf
-letter-of b = go (ranged 65 90 b) (ranged 97 122 b)
+pub letter_of_lem : (b : ℕ) → Letter b
+unfolding letter_of
+letter_of_lem b = go (ranged 65 90 b) (ranged 97 122 b)
   where
     go : Ranged 65 90 b → Ranged 97 122 b → Letter b
     go (inside e h l) r = upper h l (rw e) (rw e)
@@ -28,20 +28,20 @@ letter-of b = go (ranged 65 90 b) (ranged 97 122 b)
     go (above e h) (above f g) = over g (rw e) (rw (e, f))
 
 -- a digit of base 28, above 0
-pub digit-some : (b : ℕ) → 0 < letterOf b
-digit-some b = go (letter-of b)
+pub digit_some : (b : ℕ) → 0 < letter_of b
+digit_some b = go (letter_of_lem b)
   where
-    go : Letter b → 0 < letterOf b
+    go : Letter b → 0 < letter_of b
     go (upper h l d e) = omega arith
     go (small h l d e) = omega arith
     go (under h d e) = omega arith
     go (between h l d e) = omega arith
     go (over h d e) = omega arith
 
-pub digit-below : (b : ℕ) → letterOf b < 28
-digit-below b = go (letter-of b)
+pub digit-below : (b : ℕ) → letter_of b < 28
+digit-below b = go (letter_of_lem b)
   where
-    go : Letter b → letterOf b < 28
+    go : Letter b → letter_of b < 28
     go (upper h l d e) = omega arith
     go (small h l d e) = omega arith
     go (under h d e) = omega arith
@@ -50,30 +50,30 @@ digit-below b = go (letter-of b)
 
 -- a byte and a small letter have one digit just where the letter is the byte's lower case
 module _ (b c : ℕ) (h : 97 ≤ c) (l : c ≤ 122) where
-  small-digit : letterOf c ≡ c - 96
-  small-digit = go (letter-of c)
+  small-digit : letter_of c ≡ c - 96
+  small-digit = go (letter_of_lem c)
     where
-      go : Letter c → letterOf c ≡ c - 96
+      go : Letter c → letter_of c ≡ c - 96
       go (upper p q d e) = absurd (omega arith)
       go (small p q d e) = e
       go (under p d e) = absurd (omega arith)
       go (between p q d e) = absurd (omega arith)
       go (over p d e) = absurd (omega arith)
 
-  pub lower-digit : lowerOf b ≡ c → letterOf b ≡ letterOf c
-  lower-digit s = go (letter-of b)
+  pub lower-digit : lower_of b ≡ c → letter_of b ≡ letter_of c
+  lower-digit s = go (letter_of_lem b)
     where
-      go : Letter b → letterOf b ≡ letterOf c
+      go : Letter b → letter_of b ≡ letter_of c
       go (upper p q d e) = omega (arith, small-digit)
       go (small p q d e) = omega (arith, small-digit)
       go (under p d e) = absurd (omega arith)
       go (between p q d e) = absurd (omega arith)
       go (over p d e) = absurd (omega arith)
 
-  pub digit-lower : letterOf b ≡ letterOf c → lowerOf b ≡ c
-  digit-lower s = go (letter-of b)
+  pub digit-lower : letter_of b ≡ letter_of c → lower_of b ≡ c
+  digit-lower s = go (letter_of_lem b)
     where
-      go : Letter b → lowerOf b ≡ c
+      go : Letter b → lower_of b ≡ c
       go (upper p q d e) = omega (arith, small-digit)
       go (small p q d e) = omega (arith, small-digit)
       go (under p d e) = absurd (omega (arith, small-digit))

@@ -9,24 +9,24 @@ use native.Mathlib.Nat.{le_trans}
 use borrow.Author.Tests.{leb-false, lt-leb}
 use lib.Dec.{leb}
 use Rattle.laws.specs.Pick.{pick}
-use Rattle.words.specs.Unit.{femtosecondsOf, longest, delayOf}
-use Rattle.words.specs.Integer.{value_of, amountOf}
+use Rattle.words.specs.Unit.{femtoseconds_of, longest, delay_of}
+use Rattle.words.specs.Integer.{value_of, amount_of}
 use Rattle.words.specs.declared.unit.TimeUnit.{TimeUnit}
 use Rattle.words.specs.declared.unit.TimeUnit.TheVariants.{Fs, Ps, Ns, Us, Ms, Sec, Min, Hr}
 use Rattle.words.specs.declared.unit.Delay.{Delay}
 use Rattle.words.specs.declared.unit.Delay.TheVariants.{TooLong}
 use Rattle.words.specs.declared.integer.Amount.TheVariants.{Small, Large}
 
-amount-small : (v n : ℕ) (b : Bool) → pick b (Small v) Large ≡ Small n → v ≡ n
-amount-small v n true e = cc
-amount-small v n false e = let z : ◌≡◌ {A = ℕ} 0 1 = cc in absurd (omega arith)
+amount_small : (v n : ℕ) (b : Bool) → pick b (Small v) Large ≡ Small n → v ≡ n
+amount_small v n true e = cc
+amount_small v n false e = let z : ◌≡◌ {A = ℕ} 0 1 = cc in absurd (omega arith)
 
-amount-large : (v : ℕ) (b : Bool) → pick b (Small v) Large ≡ Large → b ≡ false
-amount-large v true e = let z : ◌≡◌ {A = ℕ} 0 1 = cc in absurd (omega arith)
-amount-large v false e = refl
+amount_large : (v : ℕ) (b : Bool) → pick b (Small v) Large ≡ Large → b ≡ false
+amount_large v true e = let z : ◌≡◌ {A = ℕ} 0 1 = cc in absurd (omega arith)
+amount_large v false e = refl
 
 -- no unit is shorter than a femtosecond
-grows : (n : ℕ) (u : TimeUnit) → n ≤ n * femtosecondsOf u
+grows : (n : ℕ) (u : TimeUnit) → n ≤ n * femtoseconds_of u
 grows n Fs = omega arith
 grows n Ps = omega arith
 grows n Ns = omega arith
@@ -37,11 +37,11 @@ grows n Min = omega arith
 grows n Hr = omega arith
 
 module _ (digits : List ℕ) (unit : TimeUnit) where
-  pub small-amount : (n : ℕ) → amountOf digits ≡ Small n → {r : Delay} → r ≡ delayOf n unit → r ≡ delayOf (value_of digits) unit
-  small-amount n e f = let z = amount-small (value_of digits) n (leb (value_of digits) longest) e in rw z f
+  pub small_amount : (n : ℕ) → amount_of digits ≡ Small n → {r : Delay} → r ≡ delay_of n unit → r ≡ delay_of (value_of digits) unit
+  small_amount n e f = let z = amount_small (value_of digits) n (leb (value_of digits) longest) e in rw z f
 
-  pub large-amount : amountOf digits ≡ Large → TooLong ≡ delayOf (value_of digits) unit
-  large-amount e =
-      let h = leb-false (value_of digits) longest (amount-large (value_of digits) (leb (value_of digits) longest) e) in
-      let g : longest < value_of digits * femtosecondsOf unit = le_trans h (grows (value_of digits) unit) in
-      rw (lt-leb (value_of digits * femtosecondsOf unit) longest g)
+  pub large_amount : amount_of digits ≡ Large → TooLong ≡ delay_of (value_of digits) unit
+  large_amount e =
+      let h = leb-false (value_of digits) longest (amount_large (value_of digits) (leb (value_of digits) longest) e) in
+      let g : longest < value_of digits * femtoseconds_of unit = le_trans h (grows (value_of digits) unit) in
+      rw (lt-leb (value_of digits * femtoseconds_of unit) longest g)

@@ -8,26 +8,26 @@ use Rattle.words.specs.declared.integer.Amount.{Amount}
 use Rattle.words.specs.declared.integer.Amount.TheVariants.{Small, Large}
 
 -- `0` is the byte 48
-abbrev pub digitOf : ℕ → ℕ
-digitOf byte = byte - 48
+abbrev pub digit_of : ℕ → ℕ
+digit_of byte = byte - 48
 
 -- the value of the digits that follow those of the value so far
-abbrev pub valueFrom : ℕ → List ℕ → ℕ
-valueFrom value [] = value
-valueFrom value (digit ∷ digits) = valueFrom (value * 10 + digitOf digit) digits
+abbrev pub value_from : ℕ → List ℕ → ℕ
+value_from value [] = value
+value_from value (digit ∷ digits) = value_from (value * 10 + digit_of digit) digits
 
 abbrev pub value_of : List ℕ → ℕ
-value_of digits = valueFrom 0 digits
+value_of digits = value_from 0 digits
 
 -- no unit is below a femtosecond, so a larger amount is no delay in any
-abbrev pub amountOf : List ℕ → Amount
-amountOf digits = pick (leb (value_of digits) longest) (Small (value_of digits)) Large
+abbrev pub amount_of : List ℕ → Amount
+amount_of digits = pick (leb (value_of digits) longest) (Small (value_of digits)) Large
 
-leading_zeros : amountOf (bytes "00120") ≡ Small 120
+leading_zeros : amount_of (bytes "00120") ≡ Small 120
 leading_zeros = refl
 
-longest-in-fs : amountOf (bytes "1000000000000000000") ≡ Small longest
-longest-in-fs = refl
+longest_in_fs : amount_of (bytes "1000000000000000000") ≡ Small longest
+longest_in_fs = refl
 
-one-above : amountOf (bytes "01000000000000000001") ≡ Large
-one-above = refl
+one_above : amount_of (bytes "01000000000000000001") ≡ Large
+one_above = refl

@@ -7,35 +7,35 @@ use Rattle.words.specs.declared.unit.TimeUnit.TheVariants.{Fs, Ps, Ns, Us, Ms, S
 use Rattle.words.specs.declared.unit.Delay.{Delay}
 use Rattle.words.specs.declared.unit.Delay.TheVariants.{Femtoseconds, TooLong}
 
-abbrev pub femtosecondsOf : TimeUnit → ℕ
-femtosecondsOf Fs = 1
-femtosecondsOf Ps = 10 ^ 3
-femtosecondsOf Ns = 10 ^ 6
-femtosecondsOf Us = 10 ^ 9
-femtosecondsOf Ms = 10 ^ 12
-femtosecondsOf Sec = 10 ^ 15
-femtosecondsOf Min = 60 * 10 ^ 15
-femtosecondsOf Hr = 60 * (60 * 10 ^ 15)
+abbrev pub femtoseconds_of : TimeUnit → ℕ
+femtoseconds_of Fs = 1
+femtoseconds_of Ps = 10 ^ 3
+femtoseconds_of Ns = 10 ^ 6
+femtoseconds_of Us = 10 ^ 9
+femtoseconds_of Ms = 10 ^ 12
+femtoseconds_of Sec = 10 ^ 15
+femtoseconds_of Min = 60 * 10 ^ 15
+femtoseconds_of Hr = 60 * (60 * 10 ^ 15)
 
 -- the longest delay and the latest stop
 abbrev pub longest : ℕ
 longest = 10 ^ 18
 
 -- so many of a unit, where that is at most the longest
-abbrev pub delayOf : ℕ → TimeUnit → Delay
-delayOf amount unit = pick (leb (amount * femtosecondsOf unit) longest) (Femtoseconds (amount * femtosecondsOf unit)) TooLong
+abbrev pub delay_of : ℕ → TimeUnit → Delay
+delay_of amount unit = pick (leb (amount * femtoseconds_of unit) longest) (Femtoseconds (amount * femtoseconds_of unit)) TooLong
 
-three-ns : delayOf 3 Ns ≡ Femtoseconds 3000000
-three-ns = refl
+three_ns : delay_of 3 Ns ≡ Femtoseconds 3000000
+three_ns = refl
 
-longest-in-sec : delayOf 1000 Sec ≡ Femtoseconds longest
-longest-in-sec = refl
+longest_in_sec : delay_of 1000 Sec ≡ Femtoseconds longest
+longest_in_sec = refl
 
-one-sec-more : delayOf 1001 Sec ≡ TooLong
-one-sec-more = refl
+one_sec_more : delay_of 1001 Sec ≡ TooLong
+one_sec_more = refl
 
-one-hour : delayOf 1 Hr ≡ TooLong
-one-hour = refl
+one_hour : delay_of 1 Hr ≡ TooLong
+one_hour = refl
 
-no-hour : delayOf 0 Hr ≡ Femtoseconds 0
-no-hour = refl
+no_hour : delay_of 0 Hr ≡ Femtoseconds 0
+no_hour = refl

@@ -9,15 +9,15 @@ use Rattle.words.specs.Token.{Name, NAND, NOR, AND, OR, XOR, XNOR, ENTITY, IS, E
 use Rattle.words.specs.Token.{Token, name, literal, once, chain, unit, fixed, foreign}
 
 -- a byte, in lower case where it is a letter
-abbrev pub lowerOf : ℕ → ℕ
-lowerOf byte = pick (within 65 90 byte) (byte + 32) byte
+abbrev pub lower_of : ℕ → ℕ
+lower_of byte = pick (within 65 90 byte) (byte + 32) byte
 
 abbrev pub lower : List ℕ → List ℕ
-lower word = map lowerOf word
+lower word = map lower_of word
 
 -- the same word: case does not count
-abbrev pub sameWord : List ℕ → List ℕ → Bool
-sameWord one other = same_list (lower one) (lower other)
+abbrev pub same_word : List ℕ → List ℕ → Bool
+same_word one other = same_list (lower one) (lower other)
 
 -- a word, in lower case, and the token that it is
 pub record Row : Type 0 where
@@ -57,36 +57,36 @@ unfoldable pub vocabulary : List Row
 vocabulary = subset ++ map (λ word. row word foreign) others
 
 -- the number of the first row that a word stands in, counted from k; past the last where it stands in none
-unfoldable pub rowFrom : ℕ → List ℕ → List Row → ℕ
-rowFrom k word [] = k
-rowFrom k word (r ∷ rows) = let later = rowFrom (k + 1) word rows in pick (same_list word (bytes r.spelling)) k later
+unfoldable pub row_from : ℕ → List ℕ → List Row → ℕ
+row_from k word [] = k
+row_from k word (r ∷ rows) = let later = row_from (k + 1) word rows in pick (same_list word (bytes r.spelling)) k later
 
 unfoldable pub row_of : List ℕ → ℕ
-row_of word = rowFrom 0 (lower word) vocabulary
+row_of word = row_from 0 (lower word) vocabulary
 
 -- the token of a row; a word that stands in no row is a name
-unfoldable pub tokenAt : ℕ → Name → Token
-tokenAt number word = get_or (map (λ r. r.token) vocabulary) number (name word)
+unfoldable pub token_at : ℕ → Name → Token
+token_at number word = get_or (map (λ r. r.token) vocabulary) number (name word)
 
-unfoldable pub wordToken : List ℕ → Token
-wordToken word = tokenAt (row_of word) (lower word)
+unfoldable pub word_token : List ℕ → Token
+word_token word = token_at (row_of word) (lower word)
 
 rows : length vocabulary ≡ 108
 unfolding subset others vocabulary
 rows = refl
 
-upper-case : wordToken (bytes "ENTITY") ≡ fixed ENTITY
-unfolding subset others vocabulary rowFrom row_of tokenAt wordToken same_list
+upper-case : word_token (bytes "ENTITY") ≡ fixed ENTITY
+unfolding subset others vocabulary row_from row_of token_at word_token same_list
 upper-case = refl
 
-a_unit : wordToken (bytes "Ns") ≡ unit Ns
-unfolding subset others vocabulary rowFrom row_of tokenAt wordToken same_list
-a_unit = refl
+a_unit_lem : word_token (bytes "Ns") ≡ unit Ns
+unfolding subset others vocabulary row_from row_of token_at word_token same_list
+a_unit_lem = refl
 
-not-of-the-subset : wordToken (bytes "inertial") ≡ foreign
-unfolding subset others vocabulary rowFrom row_of tokenAt wordToken same_list
-not-of-the-subset = refl
+not_of_the_subset : word_token (bytes "inertial") ≡ foreign
+unfolding subset others vocabulary row_from row_of token_at word_token same_list
+not_of_the_subset = refl
 
-a-name : wordToken (bytes "Pair_1") ≡ name (bytes "pair_1")
-unfolding subset others vocabulary rowFrom row_of tokenAt wordToken same_list
-a-name = refl
+a_name_lem : word_token (bytes "Pair_1") ≡ name (bytes "pair_1")
+unfolding subset others vocabulary row_from row_of token_at word_token same_list
+a_name_lem = refl

@@ -1,7 +1,7 @@
 // The value of an integer of any number of digits, as far as it is of use, and the time that it says with a unit.
 ghost use Rattle.std.specs.Prelude.{◌≡◌, ◌<◌};
-ghost use Rattle.words.specs.Unit.{delayOf};
-ghost use Rattle.words.specs.Integer.{digitOf, value_of, amountOf};
+ghost use Rattle.words.specs.Unit.{delay_of};
+ghost use Rattle.words.specs.Integer.{digit_of, value_of, amount_of};
 
 use crate::unit::{Delay, TimeUnit};
 
@@ -14,7 +14,7 @@ pub enum Amount {
 
 // The value of a digit.
 pub fn digit(byte: u8) -> u64
-    ensures { (result ≡ digitOf byte) × (result < 256) }
+    ensures { (result ≡ digit_of byte) × (result < 256) }
 {
     if byte < 48 {
         return 0;
@@ -24,7 +24,7 @@ pub fn digit(byte: u8) -> u64
 
 // The value of a run of digits. It stops at the first digit that takes it above 10^18, so it never wraps.
 pub fn amount_of(run: &[u8]) -> Amount
-    ensures { result ≡ amountOf run.now }
+    ensures { result ≡ amount_of run.now }
 {
     let mut sum: u64 = 0;
     let mut i = 0;
@@ -41,7 +41,7 @@ pub fn amount_of(run: &[u8]) -> Amount
 
 // So many of a unit, in femtoseconds, from the digits of the amount.
 pub fn time_of(digits: &[u8], unit: TimeUnit) -> Delay
-    ensures { result ≡ delayOf (value_of digits.now) unit }
+    ensures { result ≡ delay_of (value_of digits.now) unit }
 {
     match amount_of(digits) {
         Amount::Small(amount) => unit.femtoseconds(amount),

@@ -1,6 +1,6 @@
 // Units of time, each a fixed number of femtoseconds.
 ghost use Rattle.std.specs.Prelude.{◌≡◌, ◌<◌};
-ghost use Rattle.words.specs.Unit.{femtosecondsOf, delayOf};
+ghost use Rattle.words.specs.Unit.{femtoseconds_of, delay_of};
 
 #[derive(Drop)]
 pub enum TimeUnit {
@@ -42,7 +42,7 @@ impl TimeUnit {
 
     // How many femtoseconds the unit has.
     pub fn size(self) -> u64
-        ensures { (result ≡ femtosecondsOf self) × (0 < result) }
+        ensures { (result ≡ femtoseconds_of self) × (0 < result) }
     {
         match self {
             TimeUnit::Fs => TimeUnit::FS,
@@ -58,7 +58,7 @@ impl TimeUnit {
 
     // So many of this unit, in femtoseconds.
     pub fn femtoseconds(self, amount: u64) -> Delay
-        ensures { result ≡ delayOf amount self }
+        ensures { result ≡ delay_of amount self }
     {
         let size = self.size();
         if amount <= TimeUnit::LONGEST / size {

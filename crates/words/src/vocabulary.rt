@@ -1,7 +1,7 @@
 // Which word of the vocabulary a word is, and when two words are the same: case does not count.
 ghost use Rattle.std.specs.Prelude.{◌≡◌, ◌<◌, ◌≤◌, length};
-ghost use Rattle.words.specs.Vocabulary.{lowerOf, sameWord, row_of};
-ghost use Rattle.words.specs.Inside.Codes.{letterOf, code_of, codes, findFrom};
+ghost use Rattle.words.specs.Vocabulary.{lower_of, same_word, row_of};
+ghost use Rattle.words.specs.Inside.Codes.{letter_of, code_of, codes, find_from};
 
 // The rows of the vocabulary, each word as a number: its letters are digits 1 to 26 in base 28, the first the lowest.
 const CODES: [u64; 108] = [
@@ -117,7 +117,7 @@ const CODES: [u64; 108] = [
 
 // 1 to 26 for a letter in either case, and 27 for any other byte.
 fn letter(byte: u8) -> u64
-    ensures { (result ≡ letterOf byte) × (result < 28) }
+    ensures { (result ≡ letter_of byte) × (result < 28) }
 {
     match byte {
         b'A'..=b'Z' => (byte - 64) as u64,
@@ -143,7 +143,7 @@ fn code_of(word: &[u8]) -> u64
 
 // The table is made once: an index of the constant would make it anew at every turn.
 fn find(code: u64) -> usize
-    ensures { result ≡ findFrom 0 code codes }
+    ensures { result ≡ find_from 0 code codes }
 {
     let table = CODES;
     let mut k = 0;
@@ -168,7 +168,7 @@ pub fn row_of(word: &[u8]) -> usize
 
 // A byte, in lower case where it is a letter.
 pub fn lower(byte: u8) -> u8
-    ensures { result ≡ lowerOf byte }
+    ensures { result ≡ lower_of byte }
 {
     match byte {
         b'A'..=b'Z' => byte + 32,
@@ -179,7 +179,7 @@ pub fn lower(byte: u8) -> u8
 // Two words are the same, up to the case of their letters. Names that are alike mostly differ at their ends, so it goes from the last byte to the first;
 // and most bytes are the same in their case too, so the case is looked at only where they are not.
 pub fn same_word(one: &[u8], other: &[u8]) -> bool
-    ensures { result ≡ sameWord one.now other.now }
+    ensures { result ≡ same_word one.now other.now }
 {
     if one.len() != other.len() {
         return false;

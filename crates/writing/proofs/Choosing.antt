@@ -11,16 +11,16 @@ use Rattle.laws.specs.Pick.{pick}
 use Rattle.laws.specs.Text.{bytes}
 use Rattle.laws.proofs.Cases.{split}
 use Rattle.rules.specs.Formulas.{Values, differ}
-use Rattle.rules.specs.Dump.{LF, decimal, shown, changed, headed, advanceBytes}
+use Rattle.rules.specs.Dump.{LF, decimal, shown, changed, headed, advance_bytes}
 use Rattle.table.specs.Table.{bit, tabulate}
 use Rattle.table.proofs.Tabulated.{bit-zero, length-tabulate}
 use Rattle.cells.specs.Cells.{value_of, values}
 use Rattle.cells.specs.Inside.Changes.{Differs}
-use Rattle.cells.proofs.Tabulating.{tabulate-more}
+use Rattle.cells.proofs.Tabulating.{tabulate_more}
 use Rattle.cells.proofs.Columns.{length-values}
-use Rattle.cells.proofs.Words.{bit-above, Walking, walking-first, walking-last, Stepping, walking-next}
+use Rattle.cells.proofs.Words.{bit-above, Walking, walking_first, walking_last, Stepping, walking_next}
 use Rattle.writing.specs.Inside.Written.{Writes, chosen}
-use Rattle.writing.proofs.Buffers.{writes-both, writes-none}
+use Rattle.writing.proofs.Buffers.{writes_both, writes-none}
 
 module _ (word : ℕ) where
   chosen-append : (i : ℕ) (vs : Values) (v : Bool) → chosen word i (vs ++ (v ∷ [])) ≡ chosen word i vs ++ pick (bit word (i + length vs)) (shown (i + length vs) v) []
@@ -31,19 +31,19 @@ module _ (word : ℕ) where
       ap (λ l. pick (bit word i) (shown i u) [] ++ l) (chosen-append (suc i) vs v ∙ rw e)
       ∙ sym (append_assoc (pick (bit word i) (shown i u) []) (chosen word (suc i) vs) _)
 
-  chosen-most : (i : ℕ) (vs : Values) → length (chosen word i vs) ≤ 3 * length vs
+  chosen_most : (i : ℕ) (vs : Values) → length (chosen word i vs) ≤ 3 * length vs
   unfolding chosen
-  chosen-most i [] = omega arith
-  chosen-most i (v ∷ vs) =
+  chosen_most i [] = omega arith
+  chosen_most i (v ∷ vs) =
       split (bit word i)
-      (λ e. rw e (omega (arith, chosen-most (suc i) vs)))
-      (λ e. rw e (omega (arith, chosen-most (suc i) vs)))
+      (λ e. rw e (omega (arith, chosen_most (suc i) vs)))
+      (λ e. rw e (omega (arith, chosen_most (suc i) vs)))
 
   module _ (cs : List ℕ) where
     one_more : (k : ℕ) → chosen word 0 (values (suc k) cs) ≡ chosen word 0 (values k cs) ++ pick (bit word k) (shown k (value_of cs k)) []
     unfolding values
     one_more k =
-        ap (chosen word 0) (tabulate-more (value_of cs) 0 k)
+        ap (chosen word 0) (tabulate_more (value_of cs) 0 k)
         ∙ chosen-append 0 (tabulate (value_of cs) 0 k) (value_of cs (0 + k))
         ∙ place (0 + k) k (0 + length (tabulate (value_of cs) 0 k)) (omega arith) (omega (arith, length-tabulate (value_of cs) 0 k))
       where
@@ -52,8 +52,8 @@ module _ (word : ℕ) where
             ≡ chosen word 0 (tabulate (value_of cs) 0 k) ++ pick (bit word j) (shown j (value_of cs j)) []
         place i j m p q = rw (p, q)
 
-    unset-more : (k : ℕ) → bit word k ≡ false → chosen word 0 (values (suc k) cs) ≡ chosen word 0 (values k cs)
-    unset-more k e = one_more k ∙ rw e (append-nil (chosen word 0 (values k cs)))
+    unset_more : (k : ℕ) → bit word k ≡ false → chosen word 0 (values (suc k) cs) ≡ chosen word 0 (values k cs)
+    unset_more k e = one_more k ∙ rw e (append-nil (chosen word 0 (values k cs)))
 
     set_more : (k : ℕ) → bit word k ≡ true → chosen word 0 (values (suc k) cs) ≡ chosen word 0 (values k cs) ++ shown k (value_of cs k)
     set_more k e = one_more k ∙ rw e
@@ -62,7 +62,7 @@ module _ (word : ℕ) where
     jump zero k h = ap (λ n. chosen word 0 (values n cs)) (omega arith)
     jump (suc z) k h =
         let e : k + suc z ≡ suc (k + z) = omega arith in
-        rw e (unset-more (k + z) (h z (omega arith)) ∙ jump z k (λ j l. h j (omega arith)))
+        rw e (unset_more (k + z) (h z (omega arith)) ∙ jump z k (λ j l. h j (omega arith)))
 
     -- the loop: the lines of the chosen among the first k signals are written
     module _ (out : List ℕ) (at : ℕ) where
@@ -70,22 +70,22 @@ module _ (word : ℕ) where
         pub walking : Walking word 64 m k
         pub writes : Writes out at (chosen word 0 (values k cs)) place mid
 
-      pub chosen-first : word < 2 ^ 64 → Chosen out at word 0
+      pub chosen_first : word < 2 ^ 64 → Chosen out at word 0
       unfolding chosen values tabulate
-      chosen-first l = record { walking = walking-first word 64 l; writes = writes-none out at }
+      chosen_first l = record { walking = walking_first word 64 l; writes = writes-none out at }
 
       module _ (mid : List ℕ) (place m k : ℕ) (c : Chosen mid place m k) where
         pub chosen-place : place ≤ at + 3 * k
-        chosen-place = omega (arith, c.writes.end, chosen-most 0 (values k cs), length-values k cs)
+        chosen-place = omega (arith, c.writes.end, chosen_most 0 (values k cs), length-values k cs)
 
         pub chosen_last : m ≡ 0 → Writes out at (chosen word 0 (values 64 cs)) place mid
         chosen_last e =
             let q : k + (64 - k) ≡ 64 = omega (arith, c.walking.low) in
-            rw (← q, jump (64 - k) k (λ j l. walking-last word 64 m k c.walking e (k + j) (omega arith))) c.writes
+            rw (← q, jump (64 - k) k (λ j l. walking_last word 64 m k c.walking e (k + j) (omega arith))) c.writes
 
         module _ (some : 0 < m) where
           pub step : Stepping word 64 m k (count_trailing_zeros 64 m)
-          step = walking-next word 64 m k c.walking (omega arith) some
+          step = walking_next word 64 m k c.walking (omega arith) some
 
           pub chosen_more : (r : ℕ) (after : List ℕ) → Writes mid place (shown (k + count_trailing_zeros 64 m) (value_of cs (k + count_trailing_zeros 64 m))) r after
               → Chosen after r (m / 2 ^ count_trailing_zeros 64 m / 2) (k + count_trailing_zeros 64 m + 1)
@@ -95,7 +95,7 @@ module _ (word : ℕ) where
                 walking = step.next;
                 writes =
                     rw (add-one (k + count_trailing_zeros 64 m), set_more (k + count_trailing_zeros 64 m) step.set, jump (count_trailing_zeros 64 m) k step.unset)
-                    (writes-both out at (chosen word 0 (values k cs)) (shown (k + count_trailing_zeros 64 m) (value_of cs (k + count_trailing_zeros 64 m))) place r mid after c.writes w);
+                    (writes_both out at (chosen word 0 (values k cs)) (shown (k + count_trailing_zeros 64 m) (value_of cs (k + count_trailing_zeros 64 m))) place r mid after c.writes w);
               }
 
     -- a word of n bits chooses among n signals
@@ -105,13 +105,13 @@ module _ (word : ℕ) where
         ap (λ m. chosen word 0 (values m cs)) (sym q) ∙ jump (64 - n) n (λ j m. bit-above n word (n + j) s (omega arith))
 
   -- a set bit gives a line
-  some-line : (i : ℕ) (vs : Values) (k : ℕ) → k < length vs → bit word (i + k) ≡ true → 0 < length (chosen word i vs)
+  some_line : (i : ℕ) (vs : Values) (k : ℕ) → k < length vs → bit word (i + k) ≡ true → 0 < length (chosen word i vs)
   unfolding chosen
-  some-line i [] k l b = absurd (omega arith)
-  some-line i (v ∷ vs) zero l b = let e : i + 0 ≡ i = omega arith in let h = rw e at b in rw h (omega arith)
-  some-line i (v ∷ vs) (suc k) l b =
+  some_line i [] k l b = absurd (omega arith)
+  some_line i (v ∷ vs) zero l b = let e : i + 0 ≡ i = omega arith in let h = rw e at b in rw h (omega arith)
+  some_line i (v ∷ vs) (suc k) l b =
       let e : suc i + k ≡ i + suc k = omega arith in
-      omega (arith, length-append (pick (bit word i) (shown i v) []) (chosen word (suc i) vs), some-line (suc i) vs k (omega arith) (rw e b))
+      omega (arith, length-append (pick (bit word i) (shown i v) []) (chosen word (suc i) vs), some_line (suc i) vs k (omega arith) (rw e b))
 
   -- no bit, no line
   no_line : word ≡ 0 → (i : ℕ) (vs : Values) → chosen word i vs ≡ []
@@ -129,23 +129,23 @@ changed-chosen word i (suc n) f g h =
     let e : bit word i ≡ differ (f i) (g i) = subst (λ j. bit word j ≡ differ (f j) (g j)) (omega arith) (h 0 (omega arith)) in
     rw (e, changed-chosen word (suc i) n f g (λ k l. subst (λ j. bit word j ≡ differ (f j) (g j)) (omega arith) (h (suc k) (omega arith))))
 
-head-some : (t : ℕ) (l : List ℕ) → 0 < length l → headed t l ≡ bytes "#" ++ (decimal t ++ (LF ∷ l))
-head-some t [] h = absurd (omega arith)
-head-some t (b ∷ bs) h = refl
+head_some : (t : ℕ) (l : List ℕ) → 0 < length l → headed t l ≡ bytes "#" ++ (decimal t ++ (LF ∷ l))
+head_some t [] h = absurd (omega arith)
+head_some t (b ∷ bs) h = refl
 
 module _ (n word : ℕ) (before cs : List ℕ) (few : n ≤ 64) (d : Differs n word before cs) where
   lines : changed 0 (values n before) (values n cs) ≡ chosen word 0 (values n cs)
   unfolding values
   lines = changed-chosen word 0 n (value_of before) (value_of cs) (λ k l. d.tells (0 + k) (omega arith))
 
-  pub nothing_written : (t : ℕ) → word ≡ 0 → advanceBytes t (values n before) (values n cs) ≡ []
-  unfolding advanceBytes
+  pub nothing_written : (t : ℕ) → word ≡ 0 → advance_bytes t (values n before) (values n cs) ≡ []
+  unfolding advance_bytes
   nothing_written t e = rw (lines, no_line word e 0 (values n cs))
 
-  pub advance-written : (t : ℕ) → (word ≡ 0 → ⊥) → advanceBytes t (values n before) (values n cs) ≡ bytes "#" ++ (decimal t ++ (LF ∷ chosen word 0 (values 64 cs)))
-  unfolding advanceBytes
+  pub advance-written : (t : ℕ) → (word ≡ 0 → ⊥) → advance_bytes t (values n before) (values n cs) ≡ bytes "#" ++ (decimal t ++ (LF ∷ chosen word 0 (values 64 cs)))
+  unfolding advance_bytes
   advance-written t ne =
-      let s = walking-next word n word 0 (walking-first word n d.small) few (omega arith) in
+      let s = walking_next word n word 0 (walking_first word n d.small) few (omega arith) in
       rw (lines, chosen-few word cs n few d.small)
-      (head-some t (chosen word 0 (values n cs))
-      (some-line word 0 (values n cs) (count_trailing_zeros 64 word) (omega (arith, s.inside, length-values n cs)) s.set))
+      (head_some t (chosen word 0 (values n cs))
+      (some_line word 0 (values n cs) (count_trailing_zeros 64 word) (omega (arith, s.inside, length-values n cs)) s.set))

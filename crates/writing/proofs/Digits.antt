@@ -11,7 +11,7 @@ use Rattle.laws.specs.Pick.{pick}
 use Rattle.rules.specs.Dump.{digits, decimal}
 use Rattle.writing.specs.Inside.Block.{two, four, eight}
 use Rattle.writing.specs.Inside.Written.{Writes}
-use Rattle.writing.proofs.Buffers.{writes-both}
+use Rattle.writing.proofs.Buffers.{writes_both}
 
 -- so many divisions are enough, and more change nothing
 digits-enough : (f g n : ℕ) → n ≤ f → n ≤ g → (others : List ℕ) → digits f n others ≡ digits g n others
@@ -33,10 +33,10 @@ digits_append (suc f) n others more =
     either true = refl
     either false = refl
 
-pub decimal-one : (n : ℕ) → n < 10 → decimal n ≡ (48 + n) ∷ []
+pub decimal_one : (n : ℕ) → n < 10 → decimal n ≡ (48 + n) ∷ []
 unfolding decimal digits
-decimal-one zero l = refl
-decimal-one (suc m) l = rw (lt-ltb (suc m) 10 l)
+decimal_one zero l = refl
+decimal_one (suc m) l = rw (lt-ltb (suc m) 10 l)
 
 -- where a number is no smaller than a size, its remainder's block comes last
 abbrev pub Splits : ℕ → (ℕ → List ℕ) → Type 0
@@ -60,9 +60,9 @@ twice half size block quotient upper lower large larger s n l =
     ∙ ap (λ (ds : List ℕ). ds ++ block (n % half)) (s (n / half) (larger n l))
     ∙ rw (append_assoc, quotient n, upper n, lower n)
 
-pub split-two : Splits 100 two
+pub split_two : Splits 100 two
 unfolding two
-split-two =
+split_two =
     twice 10 100 (λ d. (48 + d) ∷ []) (λ (n : ℕ). omega arith) (λ (n : ℕ). omega arith) (λ (n : ℕ). omega arith)
     (λ (n : ℕ) l. omega arith) (λ (n : ℕ) l. omega arith) split_one
 
@@ -70,7 +70,7 @@ pub split-four : Splits 10000 four
 unfolding four
 split-four =
     twice 100 10000 two (λ (n : ℕ). omega arith) (λ (n : ℕ). omega arith) (λ (n : ℕ). omega arith)
-    (λ (n : ℕ) l. omega arith) (λ (n : ℕ) l. omega arith) split-two
+    (λ (n : ℕ) l. omega arith) (λ (n : ℕ) l. omega arith) split_two
 
 pub split-eight : Splits 100000000 eight
 unfolding eight
@@ -78,9 +78,9 @@ split-eight =
     twice 10000 100000000 four (λ (n : ℕ). omega arith) (λ (n : ℕ). omega arith) (λ (n : ℕ). omega arith)
     (λ (n : ℕ) l. omega arith) (λ (n : ℕ) l. omega arith) split-four
 
-pub decimal-two : (n : ℕ) → 10 ≤ n → n < 100 → decimal n ≡ two n
+pub decimal_two : (n : ℕ) → 10 ≤ n → n < 100 → decimal n ≡ two n
 unfolding two
-decimal-two n l m = split_one n l ∙ rw (decimal-one (n / 10) (omega arith))
+decimal_two n l m = split_one n l ∙ rw (decimal_one (n / 10) (omega arith))
 
 pub length_two : (n : ℕ) → length (two n) ≡ 2
 unfolding two
@@ -99,4 +99,4 @@ pub writes-split : (size : ℕ) (block : ℕ → List ℕ) → Splits size block
     → (out : List ℕ) (at n m r : ℕ) (mid after : List ℕ) → size ≤ n
     → Writes out at (decimal (n / size)) m mid → Writes mid m (block (n % size)) r after → Writes out at (decimal n) r after
 writes-split size block s out at n m r mid after l a b =
-    rw (s n l) (writes-both out at (decimal (n / size)) (block (n % size)) m r mid after a b)
+    rw (s n l) (writes_both out at (decimal (n / size)) (block (n % size)) m r mid after a b)

@@ -10,24 +10,24 @@ use Rattle.rules.specs.Formulas.{Values}
 use Rattle.rules.specs.Dump.{digit, shown, all}
 use Rattle.table.specs.Table.{tabulate}
 use Rattle.table.proofs.Tabulated.{length-tabulate}
-use Rattle.table.proofs.Written.{all-length}
+use Rattle.table.proofs.Written.{all_length}
 use Rattle.cells.specs.Cells.{truth, value_of, values}
-use Rattle.cells.proofs.Tabulating.{tabulate-more}
+use Rattle.cells.proofs.Tabulating.{tabulate_more}
 use Rattle.cells.proofs.Columns.{length-values}
 use Rattle.writing.specs.Inside.Written.{Writes}
-use Rattle.writing.proofs.Buffers.{writes-both, writes-none}
+use Rattle.writing.proofs.Buffers.{writes_both, writes-none}
 
-digit-of : (v : ℕ) → v ≤ 1 → 48 + v ≡ digit (truth v)
-digit-of zero l = refl
-digit-of (suc zero) l = refl
-digit-of (suc (suc v)) l = absurd (omega arith)
+digit_of_lem : (v : ℕ) → v ≤ 1 → 48 + v ≡ digit (truth v)
+digit_of_lem zero l = refl
+digit_of_lem (suc zero) l = refl
+digit_of_lem (suc (suc v)) l = absurd (omega arith)
 
 pub writes_line : (out : List ℕ) (at k v : ℕ) → v ≤ 1
     → Writes out at (shown k (truth v)) (at + 3) (set (set (set out at (48 + v)) (at + 1) (33 + k)) (at + 2) 10)
 writes_line out at k v l =
     let b : at + 1 ≡ suc at = omega arith in
     let c : at + 2 ≡ suc (suc at) = omega arith in
-    record { bytes = rw (b, c, digit-of v l); end = refl }
+    record { bytes = rw (b, c, digit_of_lem v l); end = refl }
 
 all_append : (i : ℕ) (vs : Values) (v : Bool) → all i (vs ++ (v ∷ [])) ≡ all i vs ++ shown (i + length vs) v
 unfolding all
@@ -38,7 +38,7 @@ all_append i (u ∷ vs) v = let e : suc i + length vs ≡ i + suc (length vs) = 
 pub all_more : (cs : List ℕ) (k : ℕ) → all 0 (values (suc k) cs) ≡ all 0 (values k cs) ++ shown k (value_of cs k)
 unfolding values
 all_more cs k =
-    ap (all 0) (tabulate-more (value_of cs) 0 k)
+    ap (all 0) (tabulate_more (value_of cs) 0 k)
     ∙ all_append 0 (tabulate (value_of cs) 0 k) (value_of cs (0 + k))
     ∙ place (0 + k) k (0 + length (tabulate (value_of cs) 0 k)) (omega arith) (omega (arith, length-tabulate (value_of cs) 0 k))
   where
@@ -46,13 +46,13 @@ all_more cs k =
     place i j m p q = rw (p, q)
 
 module _ (out : List ℕ) (at : ℕ) (cs : List ℕ) where
-  pub lines-first : Writes out at (all 0 (values 0 cs)) at out
+  pub lines_first : Writes out at (all 0 (values 0 cs)) at out
   unfolding all values tabulate
-  lines-first = writes-none out at
+  lines_first = writes-none out at
 
   pub lines_more : (k m r : ℕ) (mid after : List ℕ) → Writes out at (all 0 (values k cs)) m mid → Writes mid m (shown k (value_of cs k)) r after
       → Writes out at (all 0 (values (k + 1) cs)) r after
-  lines_more k m r mid after a b = rw (add-one k, all_more cs k) (writes-both out at (all 0 (values k cs)) (shown k (value_of cs k)) m r mid after a b)
+  lines_more k m r mid after a b = rw (add-one k, all_more cs k) (writes_both out at (all 0 (values k cs)) (shown k (value_of cs k)) m r mid after a b)
 
   pub lines-place : (k m : ℕ) (mid : List ℕ) → Writes out at (all 0 (values k cs)) m mid → m ≡ at + 3 * k
-  lines-place k m mid w = omega (arith, w.end, all-length 0 (values k cs), length-values k cs)
+  lines-place k m mid w = omega (arith, w.end, all_length 0 (values k cs), length-values k cs)

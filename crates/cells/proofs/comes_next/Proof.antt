@@ -5,8 +5,8 @@ use native.Mathlib.Numerals.{add-one}
 use native.Mathlib.Omega.{arith}
 use borrow.Author.Rules.{rules}
 use Rattle.cells.specs.Inside.Moves.{Seen}
-use Rattle.cells.proofs.Nearest.{seen_start, comes-nothing, comes-at}
-use Rattle.cells.proofs.Words.{one-fits}
+use Rattle.cells.proofs.Nearest.{seen_start, comes_nothing, comes_at}
+use Rattle.cells.proofs.Words.{one_fits}
 use Rattle.cells.proofs.comes_next.Statement.{statement}
 use Rattle.cells.proofs.comes_next.Tie as tie
 
@@ -14,7 +14,7 @@ twice : (k b : ℕ) → k + 1 < 64 → b ≡ 1 * 2 ^ k → b * 2 ^ 1 % 2 ^ 64 �
 twice k b l e =
     let q : 2 * 2 ^ k ≡ 2 ^ suc k = omega arith in
     let d : 1 * 2 ^ k * 2 ^ 1 ≡ 1 * 2 ^ (k + 1) = rw (add-one k) (omega arith) in
-    ap (λ (x : ℕ). x * 2 ^ 1 % 2 ^ 64) e ∙ ap (λ (x : ℕ). x % 2 ^ 64) d ∙ one-fits (k + 1) l
+    ap (λ (x : ℕ). x * 2 ^ 1 % 2 ^ 64) e ∙ ap (λ (x : ℕ). x % 2 ^ 64) d ∙ one_fits (k + 1) l
 
 abbrev invariant-loop : tie.invariant-loop
 invariant-loop cells count time₀ due₀ bit₀ k₀ time due bit k = (k ≤ count) × Seen cells k time due × (k < 64 → bit ≡ 1 * 2 ^ k)
@@ -40,12 +40,12 @@ loop-again c = (omega arith, c.earlier.ensures, λ l. twice c.before.before.loop
 returns : tie.Need-returns invariant-loop decreases-loop
 returns c =
     let e : c.before.before.loop.k ≡ c.before.before.before.args.count = omega arith in
-    comes-nothing c.before.before.before.args.cells.now c.before.before.before.args.count c.before.before.loop.time c.before.before.loop.due c.before.before.before.requires.1 (subst (λ k. Seen c.before.before.before.args.cells.now k c.before.before.loop.time c.before.before.loop.due) e c.before.before.loop.invariant.1) c.if1.true
+    comes_nothing c.before.before.before.args.cells.now c.before.before.before.args.count c.before.before.loop.time c.before.before.loop.due c.before.before.before.requires.1 (subst (λ k. Seen c.before.before.before.args.cells.now k c.before.before.loop.time c.before.before.loop.due) e c.before.before.loop.invariant.1) c.if1.true
 
 returns-2 : tie.Need-returns-2 invariant-loop decreases-loop
 returns-2 c =
     let e : c.before.before.loop.k ≡ c.before.before.before.args.count = omega arith in
-    comes-at c.before.before.before.args.cells.now c.before.before.before.args.count c.before.before.loop.time c.before.before.loop.due c.before.before.before.requires.1 (subst (λ k. Seen c.before.before.before.args.cells.now k c.before.before.loop.time c.before.before.loop.due) e c.before.before.loop.invariant.1) c.if1.false
+    comes_at c.before.before.before.args.cells.now c.before.before.before.args.count c.before.before.loop.time c.before.before.loop.due c.before.before.before.requires.1 (subst (λ k. Seen c.before.before.before.args.cells.now k c.before.before.loop.time c.before.before.loop.due) e c.before.before.loop.invariant.1) c.if1.false
 
 pub comes-next-spec : {M : Type 1} → statement M
 comes-next-spec =

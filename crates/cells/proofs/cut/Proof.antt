@@ -1,7 +1,7 @@
 -- `cells::cut` meets its contract: from n on all changes come at t or later, and are gone. Assumes nothing.
 use Prim.Native.Nat.{◌-◌}
 use native.Mathlib.Omega.{arith}
-use Rattle.cells.proofs.Cutting.{Cutting, cutting-none, cutting-more, cut-found, cut-none}
+use Rattle.cells.proofs.Cutting.{Cutting, cutting_none, cutting_more, cut-found, cut-none}
 use Rattle.cells.proofs.cut.Statement.{statement}
 use Rattle.cells.proofs.cut.Tie as tie
 
@@ -12,7 +12,7 @@ abbrev decreases-loop : tie.decreases-loop
 decreases-loop cells₀ base count t n₀ cells n = n
 
 loop-holds : tie.Need-loop-init invariant-loop decreases-loop
-loop-holds c = cutting-none _ _ _ _ c.requires.0
+loop-holds c = cutting_none _ _ _ _ c.requires.0
 
 sub-m : tie.Need-overflow-sub-m invariant-loop decreases-loop
 sub-m c = omega arith
@@ -45,7 +45,7 @@ loop-again : tie.Need-loop-preserved invariant-loop decreases-loop
 loop-again c =
     let k = c.before.before.before in
     let a = k.before.args in
-    cutting-more a.cells.now a.base a.count a.t k.loop.n k.loop.cells k.loop.invariant (omega arith) k.before.requires.1.0 (omega arith)
+    cutting_more a.cells.now a.base a.count a.t k.loop.n k.loop.cells k.loop.invariant (omega arith) k.before.requires.1.0 (omega arith)
 
 returns-2 : tie.Need-returns-2 invariant-loop decreases-loop
 returns-2 c =

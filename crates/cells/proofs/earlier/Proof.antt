@@ -1,6 +1,6 @@
 -- `cells::earlier` meets its contract: the signal has no change, or a first one. Assumes nothing.
 use borrow.Author.Rules.{rules}
-use Rattle.cells.proofs.Nearest.{seen_none, seen-some}
+use Rattle.cells.proofs.Nearest.{seen_none, seen_some}
 use Rattle.cells.proofs.earlier.Statement.{statement}
 use Rattle.cells.proofs.earlier.Tie as tie
 
@@ -32,7 +32,7 @@ nearer-requires : tie.Need-nearer-requires
 nearer-requires c κs = search rules
 
 returns-2 : tie.Need-returns-2
-returns-2 c = seen-some c.before.before.before.before.args.cells.now c.before.before.before.before.args.signal c.before.before.before.before.args.time c.before.before.before.before.args.due c.before.before.before.before.requires.0 c.before.before.before.before.requires.1.0 c.before.before.before.before.requires.1.1.1 c.before.before.if1.false c.before.before.before.before.args.bit c.nearer.result.time c.nearer.result.due c.before.before.before.before.requires.1.1.0 c.nearer.ensures
+returns-2 c = seen_some c.before.before.before.before.args.cells.now c.before.before.before.before.args.signal c.before.before.before.before.args.time c.before.before.before.before.args.due c.before.before.before.before.requires.0 c.before.before.before.before.requires.1.0 c.before.before.before.before.requires.1.1.1 c.before.before.if1.false c.before.before.before.before.args.bit c.nearer.result.time c.nearer.result.due c.before.before.before.before.requires.1.1.0 c.nearer.ensures
 
 pub earlier-spec : {M : Type 1} → statement M
 earlier-spec =

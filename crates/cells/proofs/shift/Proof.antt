@@ -2,7 +2,7 @@
 use Prim.Native.Nat.{◌-◌, ◌≤◌, ◌<◌}
 use mathlib.Core.Path.{◌≡◌}
 use native.Mathlib.Omega.{arith}
-use Rattle.cells.proofs.Cutting.{shifted_none, shifted-more}
+use Rattle.cells.proofs.Cutting.{shifted_none, shifted_more}
 use Rattle.cells.specs.Inside.Moves.{Shifted}
 use Rattle.cells.proofs.shift.Statement.{statement}
 use Rattle.cells.proofs.shift.Tie as tie
@@ -45,7 +45,7 @@ loop-again c =
     let l = c.before.before in (
       omega arith,
       omega arith,
-      shifted-more l.before.args.cells.now l.loop.cells l.before.args.base l.loop.i (omega arith) (omega arith) l.loop.invariant.2,
+      shifted_more l.before.args.cells.now l.loop.cells l.before.args.base l.loop.i (omega arith) (omega arith) l.loop.invariant.2,
     )
 
 returns : tie.Need-returns invariant-loop decreases-loop

@@ -1,9 +1,9 @@
 -- What the loops over one signal's cells do, cell by cell. Assumes nothing.
 use Rattle.std.specs.Prelude.{ℕ, ◌+◌, ◌/◌, ◌^◌, ◌<◌, ◌≤◌, suc, ◌≡◌, List, [], length, get_or}
 use Rattle.std.specs.Int.Bits.{bit_or}
-use Rattle.rules.specs.Pending.{dueIn}
+use Rattle.rules.specs.Pending.{due_in}
 use Rattle.table.specs.Table.{bit}
-use Rattle.cells.specs.Cells.{pendingOf, Reached}
+use Rattle.cells.specs.Cells.{pending_of, Reached}
 
 -- of n cells from base on, those from r on, which come at t or later, are zero now, and nothing else changes
 pub record Cut (cells : List ℕ) (base n t r : ℕ) (after : List ℕ) : Type 0 where
@@ -38,7 +38,7 @@ pub record Nearer (x one time word : ℕ) (t w : ℕ) : Type 0 where
 -- a change at all, no time is above that time
 pub record Seen (cells : List ℕ) (k time word : ℕ) : Type 0 where
   pub small : word < 2 ^ k
-  pub tells : (j : ℕ) → j < k → bit word j ≡ dueIn time (pendingOf cells j)
-  pub reached : (j : ℕ) → j < k → Reached time (pendingOf cells j)
-  pub nothing : word ≡ 0 → (j : ℕ) → j < k → pendingOf cells j ≡ []
+  pub tells : (j : ℕ) → j < k → bit word j ≡ due_in time (pending_of cells j)
+  pub reached : (j : ℕ) → j < k → Reached time (pending_of cells j)
+  pub nothing : word ≡ 0 → (j : ℕ) → j < k → pending_of cells j ≡ []
   pub above : word ≡ 0 → 2 ^ 64 ≤ suc time

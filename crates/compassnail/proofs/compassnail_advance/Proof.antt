@@ -2,7 +2,7 @@
 -- Assumes nothing.
 use borrow.Author.Rules.{rules}
 use Rattle.compassnail.specs.Codes.{AdvancesInC}
-use Rattle.compassnail.proofs.Numbers.{advance-small, in-c-advance}
+use Rattle.compassnail.proofs.Numbers.{advance-small, in_c_advance}
 use Rattle.compassnail.proofs.compassnail_advance.Statement.{statement}
 use Rattle.compassnail.proofs.compassnail_advance.Tie as tie
 
@@ -25,7 +25,7 @@ same-length-3 : tie.Need-same-length-3
 same-length-3 c = search rules
 
 returns-2 : tie.Need-returns-2
-returns-2 c = in-c-advance _ _ _ _ _ _ _ _ _ c.before.before.before.before.before.before.before.before.before.before.before.if1.false c.before.before.told.ensures.0 c.before.before.told.ensures.1 c.before.before.before.before.before.before.before.before.before.before.before.before.before.before.before.before.args.stop c.before.before.before.before.before.before.before.before.advance.ensures
+returns-2 c = in_c_advance _ _ _ _ _ _ _ _ _ c.before.before.before.before.before.before.before.before.before.before.before.if1.false c.before.before.told.ensures.0 c.before.before.told.ensures.1 c.before.before.before.before.before.before.before.before.before.before.before.before.before.before.before.before.args.stop c.before.before.before.before.before.before.before.before.advance.ensures
 
 pub compassnail-advance-spec : {M : Type 1} → statement M
 compassnail-advance-spec =

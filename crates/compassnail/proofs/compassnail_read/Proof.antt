@@ -1,7 +1,7 @@
 -- `compassnail::compassnail_read` meets its contract: the reader's answer, as a number.
 -- Assumes nothing.
 use borrow.Author.Rules.{rules}
-use Rattle.compassnail.proofs.Texts.{unread-fits, read-in-c, unread-in-c}
+use Rattle.compassnail.proofs.Texts.{unread_fits, read_in_c, unread_in_c}
 use Rattle.compassnail.proofs.compassnail_read.Statement.{statement}
 use Rattle.compassnail.proofs.compassnail_read.Tie as tie
 
@@ -15,19 +15,19 @@ enum-known-number : tie.Need-enum-known-number
 enum-known-number c = search rules
 
 refused-at-requires : tie.Need-refused-at-requires
-refused-at-requires c κs = unread-fits _ _ _ _ c.before.before.before.before.before.read.ensures c.before.number.given.1
+refused-at-requires c κs = unread_fits _ _ _ _ c.before.before.before.before.before.read.ensures c.before.number.given.1
 
 same_length : tie.Need-same-length
 same_length c = search rules
 
 returns : tie.Need-returns
-returns c = read-in-c _ _ _ _ c.before.before.before.before.read.ensures c.enum_told.given.1
+returns c = read_in_c _ _ _ _ c.before.before.before.before.read.ensures c.enum_told.given.1
 
 same-length-2 : tie.Need-same-length-2
 same-length-2 c = search rules
 
 returns-2 : tie.Need-returns-2
-returns-2 c = unread-in-c _ _ _ _ c.before.before.before.before.before.before.read.ensures c.before.before.number.given.1 c.refused-at.ensures
+returns-2 c = unread_in_c _ _ _ _ c.before.before.before.before.before.before.read.ensures c.before.before.number.given.1 c.refused-at.ensures
 
 pub compassnail-read-spec : {M : Type 1} → statement M
 compassnail-read-spec =

@@ -2,7 +2,7 @@
 -- Assumes nothing.
 use borrow.Author.Rules.{rules}
 use Rattle.compassnail.specs.Codes.{StartsInC}
-use Rattle.compassnail.proofs.Numbers.{start_small, in-c-start}
+use Rattle.compassnail.proofs.Numbers.{start_small, in_c_start}
 use Rattle.compassnail.proofs.compassnail_start.Statement.{statement}
 use Rattle.compassnail.proofs.compassnail_start.Tie as tie
 
@@ -25,7 +25,7 @@ same-length-3 : tie.Need-same-length-3
 same-length-3 c = search rules
 
 returns-2 : tie.Need-returns-2
-returns-2 c = in-c-start _ _ _ _ _ _ _ _ _ c.before.before.before.before.before.before.before.before.before.before.before.if1.false c.before.before.told.ensures.0 c.before.before.told.ensures.1 c.before.before.before.before.before.before.before.before.start.ensures
+returns-2 c = in_c_start _ _ _ _ _ _ _ _ _ c.before.before.before.before.before.before.before.before.before.before.before.if1.false c.before.before.told.ensures.0 c.before.before.told.ensures.1 c.before.before.before.before.before.before.before.before.start.ensures
 
 pub compassnail-start-spec : {M : Type 1} → statement M
 compassnail-start-spec =

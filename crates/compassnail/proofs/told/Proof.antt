@@ -4,7 +4,7 @@ use mathlib.Core.Path.{refl}
 use native.Mathlib.Omega.{arith}
 use borrow.Author.Rules.{rules}
 use lib.ListN.{length-set}
-use Rattle.compassnail.specs.Codes.{Small, code_of, reportAfter}
+use Rattle.compassnail.specs.Codes.{Small, code_of, report_after}
 use Rattle.compassnail.proofs.told.Statement.{statement}
 use Rattle.compassnail.proofs.told.Tie as tie
 

@@ -1,6 +1,6 @@
 -- `dump::run` meets its contract: the table of an accepted text is fit.
 -- Assumes nothing.
-use Rattle.demands_code.proofs.Demand3.{demand-3}
+use Rattle.demands_code.proofs.Demand3.{demand_3}
 use borrow.Author.Rules.{rules}
 use Rattle.dump.proofs.run.Statement.{statement}
 use Rattle.dump.proofs.run.Tie as tie
@@ -24,7 +24,7 @@ slice-aggregate-play : tie.Need-slice-aggregate-play
 slice-aggregate-play c = search rules
 
 play-requires : tie.Need-play-requires
-play-requires c κs = ((demand-3 _ _ _ (rw c.before.enum_told.given.1 at c.before.before.before.before.read.ensures)).1.fit, c.before.before.before.before.before.before.before.requires)
+play-requires c κs = ((demand_3 _ _ _ (rw c.before.enum_told.given.1 at c.before.before.before.before.read.ensures)).1.fit, c.before.before.before.before.before.before.before.requires)
 
 returns : tie.Need-returns
 returns c = search rules

@@ -6,7 +6,7 @@ use borrow.Author.Rules.{rules}
 use mathlib.Core.List.{List, ◌++◌}
 use lib.ListN.{length, set, drop}
 use Rattle.emission.specs.Inside.Draft.{zeros}
-use Rattle.emission.proofs.Filling.{zeros-more, length-zeros}
+use Rattle.emission.proofs.Filling.{zeros_more, length-zeros}
 use Rattle.emission.proofs.clear.Statement.{statement}
 use Rattle.emission.proofs.clear.Tie as tie
 
@@ -37,7 +37,7 @@ loop-less c = search rules
 loop-again : tie.Need-loop-preserved invariant-loop decreases-loop
 loop-again c =
     let l = c.before.loop in
-    (omega arith, ap (λ (t : List ℕ). set t l.k 0) l.invariant.1 ∙ zeros-more c.before.before.args.table.now l.k (omega arith))
+    (omega arith, ap (λ (t : List ℕ). set t l.k 0) l.invariant.1 ∙ zeros_more c.before.before.args.table.now l.k (omega arith))
 
 same_length : tie.Need-same-length invariant-loop decreases-loop
 same_length c =

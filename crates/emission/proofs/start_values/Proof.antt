@@ -6,7 +6,7 @@ use borrow.Author.Rules.{rules}
 use mathlib.Core.List.{List}
 use lib.ListN.{length, set}
 use Rattle.emission.specs.Inside.Draft.{ones}
-use Rattle.emission.proofs.Filling.{ones-more, length-ones}
+use Rattle.emission.proofs.Filling.{ones_more, length-ones}
 use borrow.Author.Tests.{lt-ltb, le-ltb, eq-eqb, ne_eqb}
 use Rattle.emission.proofs.start_values.Statement.{statement}
 use Rattle.emission.proofs.start_values.Tie as tie
@@ -55,7 +55,7 @@ loop-again c =
       omega arith,
       c.before.before.write.ensures
           ∙ ap (λ (t : List ℕ). set t (3 + l.k) 1) l.invariant.2
-          ∙ rw (← g, e) (ones-more c.before.before.before.before.before.before.before.before.before.args.table.now (3 + from) (l.k - from)),
+          ∙ rw (← g, e) (ones_more c.before.before.before.before.before.before.before.before.before.args.table.now (3 + from) (l.k - from)),
     )
 
 same_length : tie.Need-same-length invariant-loop decreases-loop

@@ -1,12 +1,12 @@
 -- The readers of expressions meet their contracts: each return by its law. The nesting room falls along the cycle.
 -- Assumes nothing.
 use mathlib.Core.List.{List}
-use Rattle.look.specs.Inside.Looks.{chainOf}
+use Rattle.look.specs.Inside.Looks.{chain_of}
 use Rattle.look.proofs.Looks.{seen-there}
 use Rattle.reading.specs.declared.Spot.{Spot}
-use Rattle.reading.specs.Inside.Reading.{Ready, Reads, aMore}
+use Rattle.reading.specs.Inside.Reading.{Ready, Reads, a_more}
 use Rattle.reading.proofs.Generic.{reads-off, ready-token, ready-pass, ready-reads, ready_at}
-use Rattle.expressions.proofs.Expressions.{primary-none, primary-deep, primary-bracket, factor-plain, factor-not, expression-then, tail-low, tail-high, tail-once, tail-chain, chain-none, chain_more}
+use Rattle.expressions.proofs.Expressions.{primary-none, primary-deep, primary_bracket, factor-plain, factor-not, expression_then, tail-low, tail-high, tail-once, tail-chain, chain-none, chain_more}
 use Prim.Native.Nat.{ℕ, ◌+◌, ◌-◌, ◌*◌, ◌<◌}
 use mathlib.Core.Path.{◌≡◌, refl}
 use native.Mathlib.Omega.{arith}
@@ -88,7 +88,7 @@ abbrev tail-below : ℕ → In 3 tail-kinds.ps
 tail-below t = and 3 tail-kinds.ps (falls 3 tail-kinds.ps ◌<◌ μ-tail t) tail.Pre
 
 abbrev chain-Inv-loop : chain-lts.invariant-loop
-chain-Inv-loop text ledger₀ table₀ room kind p₀ ledger table p = Ready 0 text p ledger × ((q : Spot) (l v : List ℕ) → Reads (aMore (chainOf kind)) text room p q ledger l table v → Reads (aMore (chainOf kind)) text room p₀ q ledger₀ l table₀ v) × (length table ≡ length table₀)
+chain-Inv-loop text ledger₀ table₀ room kind p₀ ledger table p = Ready 0 text p ledger × ((q : Spot) (l v : List ℕ) → Reads (a_more (chain_of kind)) text room p q ledger l table v → Reads (a_more (chain_of kind)) text room p₀ q ledger₀ l table₀ v) × (length table ≡ length table₀)
 
 abbrev chain-μ-loop : chain-lts.decreases-loop
 chain-μ-loop text ledger₀ table₀ room kind p₀ ledger table p = length text - p.at
@@ -160,7 +160,7 @@ expression-same-length : (t : ℕ) → expression-lts.Need-same-length (expressi
 expression-same-length t c = search rules
 
 expression-returns : (t : ℕ) → expression-lts.Need-returns (expression-in t) (expression-at t) expression.Post
-expression-returns t c = expression-then c.before.before.before.before.before.before.before.factor.ensures c.before.before.tail.ensures
+expression-returns t c = expression_then c.before.before.before.before.before.before.before.factor.ensures c.before.before.tail.ensures
 
 factor-returns : (t : ℕ) → factor-lts.Need-returns (factor-in t) (factor-at t) factor.Post
 factor-returns t c = reads-off _ c.before.before.before.before.requires.1.inside c.if1.true
@@ -244,7 +244,7 @@ primary-same-length-4 : (t : ℕ) → primary-lts.Need-same-length-4 (primary-in
 primary-same-length-4 t c = search rules
 
 primary-returns-7 : (t : ℕ) → primary-lts.Need-returns-7 (primary-in t) (primary-at t) primary.Post
-primary-returns-7 t c = primary-bracket c.before.before.before.before.before.before.before.before.before.before.before.before.before.before.before.before.before.before.before.before.requires.1.inside c.before.before.before.before.before.before.before.before.before.before.before.before.before.before.before.before.if1.false c.before.before.before.before.before.before.before.before.before.before.before.before.before.before.before.peek.ensures c.before.before.before.before.before.before.before.if5.false c.before.before.before.before.before.before.if6.false c.before.before.before.expression.ensures c.word.ensures
+primary-returns-7 t c = primary_bracket c.before.before.before.before.before.before.before.before.before.before.before.before.before.before.before.before.before.before.before.before.requires.1.inside c.before.before.before.before.before.before.before.before.before.before.before.before.before.before.before.before.if1.false c.before.before.before.before.before.before.before.before.before.before.before.before.before.before.before.peek.ensures c.before.before.before.before.before.before.before.if5.false c.before.before.before.before.before.before.if6.false c.before.before.before.expression.ensures c.word.ensures
 
 tail-returns : (t : ℕ) → tail-lts.Need-returns (tail-in t) (tail_at t) tail.Post
 tail-returns t c = reads-off _ c.before.before.before.before.requires.1.inside c.if1.true

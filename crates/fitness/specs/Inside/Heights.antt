@@ -3,7 +3,7 @@
 use Rattle.std.specs.Prelude.{ℕ, ◌+◌, ◌-◌, ◌≤◌, ◌<◌, ◌≡◌, Bool, true, false, ◌⊎◌, List, length, get_or}
 use Rattle.table.specs.Instructions.{Instruction}
 use Rattle.table.specs.Fit.{Sound}
-use Rattle.fitness.specs.Inside.Kinds.{takesOf, leavesOf, Follows}
+use Rattle.fitness.specs.Inside.Kinds.{takes_of, leaves_of, Follows}
 
 -- h is put at j where go says so: r, unless another stood there
 pub record PutAs (go : Bool) (hs : List ℕ) (j h : ℕ) (r : Bool) (gs : List ℕ) : Type 0 where
@@ -14,23 +14,23 @@ pub record PutAs (go : Bool) (hs : List ℕ) (j h : ℕ) (r : Bool) (gs : List �
 
 -- the height after the instruction at x
 abbrev pub after : List ℕ → ℕ → ℕ → ℕ
-after hs kind x = get_or hs x 0 - takesOf kind + leavesOf kind
+after hs kind x = get_or hs x 0 - takes_of kind + leaves_of kind
 
 -- too few operands; too many; or another number where it leads
 pub data Broken (hs : List ℕ) (kind about x : ℕ) : Type 0 where
-  short : get_or hs x 0 ≤ takesOf kind → Broken hs kind about x
-  high : takesOf kind < get_or hs x 0 → 35 < after hs kind x → Broken hs kind about x
-  clash : (k : ℕ) → takesOf kind < get_or hs x 0 → Follows kind about x k → (get_or hs k 0 ≡ 0 → ⊥) → (get_or hs k 0 ≡ after hs kind x → ⊥)
+  short : get_or hs x 0 ≤ takes_of kind → Broken hs kind about x
+  high : takes_of kind < get_or hs x 0 → 35 < after hs kind x → Broken hs kind about x
+  clash : (k : ℕ) → takes_of kind < get_or hs x 0 → Follows kind about x k → (get_or hs k 0 ≡ 0 → ⊥) → (get_or hs k 0 ≡ after hs kind x → ⊥)
       → Broken hs kind about x
 
 pub record New (hs : List ℕ) (kind about x k : ℕ) (gs : List ℕ) : Type 0 where
-  pub enough : takesOf kind < get_or hs x 0
+  pub enough : takes_of kind < get_or hs x 0
   pub follows : Follows kind about x k
   pub none : get_or hs k 0 ≡ 0
   pub some : get_or gs k 0 ≡ after hs kind x
 
 pub record Kept (hs : List ℕ) (kind about x : ℕ) (gs : List ℕ) : Type 0 where
-  pub enough : takesOf kind < get_or hs x 0
+  pub enough : takes_of kind < get_or hs x 0
   pub most : after hs kind x ≤ 35
   pub all : (k : ℕ) → Follows kind about x k → get_or gs k 0 ≡ after hs kind x
 

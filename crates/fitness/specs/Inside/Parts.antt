@@ -2,18 +2,18 @@
 use Rattle.std.specs.Prelude.{ℕ, suc, ◌+◌, ◌-◌, ◌^◌, ◌≤◌, ◌<◌, ◌≡◌, List, length, get_or}
 use Rattle.table.specs.Table.{Table, begins}
 use Rattle.table.specs.Fit.{Sound}
-use Rattle.layout.specs.TableWords.{signalsAt, processesAt, instructionsAt}
-use Rattle.layout.proofs.Tables.{decodeTable}
+use Rattle.layout.specs.TableWords.{signals_at, processes_at, instructions_at}
+use Rattle.layout.proofs.Tables.{decode_table}
 use Rattle.fitness.specs.Inside.Kinds.{Legals}
 
 abbrev pub signals : List ℕ → ℕ
-signals words = get_or words signalsAt 0
+signals words = get_or words signals_at 0
 
 abbrev pub processes : List ℕ → ℕ
-processes words = get_or words processesAt 0
+processes words = get_or words processes_at 0
 
 abbrev pub instructions : List ℕ → ℕ
-instructions words = get_or words instructionsAt 0
+instructions words = get_or words instructions_at 0
 
 -- the words from one place up to another are at most top
 abbrev pub Within : List ℕ → ℕ → ℕ → ℕ → Type 0
@@ -28,9 +28,9 @@ pub record Gathered (words : List ℕ) (from j n : ℕ) : Type 0 where
 -- the counts keep the sizes
 pub record Few (words : List ℕ) : Type 0 where
   pub long : 8387 ≤ length words
-  pub fewSignals : signals words ≤ 64
-  pub fewProcesses : processes words ≤ 64
-  pub fewInstructions : instructions words ≤ 4096
+  pub few_signals : signals words ≤ 64
+  pub few_processes : processes words ≤ 64
+  pub few_instructions : instructions words ≤ 4096
 
 -- starting values are yes-or-nos, and signals wake no process that is not there
 pub record Used (words : List ℕ) : Type 0 where
@@ -39,11 +39,11 @@ pub record Used (words : List ℕ) : Type 0 where
 
 -- unused words are zero
 pub record Unused (words : List ℕ) : Type 0 where
-  pub noValues : Within words (3 + signals words) 67 0
-  pub noListeners : Within words (67 + signals words) 131 0
-  pub noEnds : Within words (131 + processes words) 195 0
-  pub noOperations : Within words (195 + instructions words) 4291 0
-  pub noDelays : Within words (4291 + instructions words) 8387 0
+  pub no_values : Within words (3 + signals words) 67 0
+  pub no_listeners : Within words (67 + signals words) 131 0
+  pub no_ends : Within words (131 + processes words) 195 0
+  pub no_operations : Within words (195 + instructions words) 4291 0
+  pub no_delays : Within words (4291 + instructions words) 8387 0
 
 -- the processes' instructions follow one another without gap and cover all
 pub record Rows (t : Table) (n m : ℕ) : Type 0 where
@@ -57,5 +57,5 @@ Sounds t n = (p : ℕ) → p < n → Sound t.code (begins t p) (begins t (suc p)
 -- what is known of words before their operands and drivers are looked at
 pub record Ready (words : List ℕ) : Type 0 where
   pub few : Few words
-  pub rows : Rows (decodeTable words) (processes words) (instructions words)
+  pub rows : Rows (decode_table words) (processes words) (instructions words)
   pub legal : Legals words (signals words) (instructions words)

@@ -3,8 +3,8 @@
 use Prim.Native.Nat.{◌-◌, ◌≤◌}
 use borrow.Author.Rules.{rules}
 use native.Mathlib.Omega.{arith}
-use Rattle.laws.proofs.Deciding.{decides-no}
-use Rattle.fitness_session.proofs.Climbing.{Climbs, climb-none, climb-more, climb-bad, climb-far, climb-done}
+use Rattle.laws.proofs.Deciding.{decides_no}
+use Rattle.fitness_session.proofs.Climbing.{Climbs, climb_none, climb_more, climb_bad, climb_far, climb_done}
 use Rattle.fitness_session.proofs.changes.Statement.{statement}
 use Rattle.fitness_session.proofs.changes.Tie as tie
 
@@ -15,7 +15,7 @@ abbrev decreases-loop : tie.decreases-loop
 decreases-loop words from count time last₀ j₀ last j = count - j
 
 loop-holds : tie.Need-loop-init invariant-loop decreases-loop
-loop-holds c = (omega arith, climb-none c.before.args.words.now c.before.args.from c.before.args.time)
+loop-holds c = (omega arith, climb_none c.before.args.words.now c.before.args.from c.before.args.time)
 
 add-next : tie.Need-overflow-add-next invariant-loop decreases-loop
 add-next c = search rules
@@ -27,7 +27,7 @@ shared-slice-read-next : tie.Need-shared-slice-read-next invariant-loop decrease
 shared-slice-read-next c = search rules
 
 returns : tie.Need-returns invariant-loop decreases-loop
-returns c = decides-no _ (climb-bad c.before.before.before.before.before.args.words.now c.before.before.before.before.before.args.from c.before.before.before.before.before.args.time c.before.before.before.loop.j c.before.before.before.loop.last c.before.before.before.loop.invariant.1 c.before.before.before.before.before.args.count c.before.before.loop-test.true c.if1.true)
+returns c = decides_no _ (climb_bad c.before.before.before.before.before.args.words.now c.before.before.before.before.before.args.from c.before.before.before.before.before.args.time c.before.before.before.loop.j c.before.before.before.loop.last c.before.before.before.loop.invariant.1 c.before.before.before.before.before.args.count c.before.before.loop-test.true c.if1.true)
 
 add-j : tie.Need-overflow-add-j invariant-loop decreases-loop
 add-j c = search rules
@@ -36,13 +36,13 @@ loop-less : tie.Need-loop-smaller invariant-loop decreases-loop
 loop-less c = search rules
 
 loop-again : tie.Need-loop-preserved invariant-loop decreases-loop
-loop-again c = (omega arith, climb-more c.before.before.before.before.before.args.words.now c.before.before.before.before.before.args.from c.before.before.before.before.before.args.time c.before.before.before.loop.j c.before.before.before.loop.last c.before.before.before.loop.invariant.1 (omega arith))
+loop-again c = (omega arith, climb_more c.before.before.before.before.before.args.words.now c.before.before.before.before.before.args.from c.before.before.before.before.before.args.time c.before.before.before.loop.j c.before.before.before.loop.last c.before.before.before.loop.invariant.1 (omega arith))
 
 add-if2 : tie.Need-overflow-add-if2 invariant-loop decreases-loop
 add-if2 c = search rules
 
 returns-2 : tie.Need-returns-2 invariant-loop decreases-loop
-returns-2 c = decides-no _ (climb-far c.before.before.before.before.args.words.now c.before.before.before.before.args.from c.before.before.before.before.args.time c.before.before.loop.j c.before.before.loop.last c.before.before.loop.invariant.1 c.before.before.before.before.args.count c.before.before.loop.invariant.0 c.if2.true)
+returns-2 c = decides_no _ (climb_far c.before.before.before.before.args.words.now c.before.before.before.before.args.from c.before.before.before.before.args.time c.before.before.loop.j c.before.before.loop.last c.before.before.loop.invariant.1 c.before.before.before.before.args.count c.before.before.loop.invariant.0 c.if2.true)
 
 add-zeros : tie.Need-overflow-add-zeros invariant-loop decreases-loop
 add-zeros c = search rules
@@ -54,7 +54,7 @@ zeros-requires : tie.Need-zeros-requires invariant-loop decreases-loop
 zeros-requires c κs = search rules
 
 returns-3 : tie.Need-returns-3 invariant-loop decreases-loop
-returns-3 c = climb-done c.before.before.before.before.before.args.words.now c.before.before.before.before.before.args.from c.before.before.before.before.before.args.time c.before.before.before.loop.j c.before.before.before.loop.last c.before.before.before.loop.invariant.1 c.before.before.before.before.before.args.count _ (omega arith) (omega arith) c.zeros.ensures
+returns-3 c = climb_done c.before.before.before.before.before.args.words.now c.before.before.before.before.before.args.from c.before.before.before.before.before.args.time c.before.before.before.loop.j c.before.before.before.loop.last c.before.before.before.loop.invariant.1 c.before.before.before.before.before.args.count _ (omega arith) (omega arith) c.zeros.ensures
 
 pub changes-spec : {M : Type 1} → statement M
 changes-spec =

@@ -4,9 +4,9 @@ use mathlib.Core.Path.{refl}
 use borrow.Author.Tests.{not-true, not-false}
 use borrow.Author.Rules.{rules}
 use native.Mathlib.Omega.{arith}
-use Rattle.laws.proofs.Deciding.{decides-no}
+use Rattle.laws.proofs.Deciding.{decides_no}
 use Rattle.fitness.proofs.Whole.{fits, fit-few, fit-rows, fit-ready, fit-alone}
-use Rattle.fitness_session.proofs.Whole.{fit-head, fit-signals, session-is-fit, for-table}
+use Rattle.fitness_session.proofs.Whole.{fit-head, fit-signals, session_is_fit, for_table}
 use Rattle.fitness_session.proofs.fit_session.Statement.{statement}
 use Rattle.fitness_session.proofs.fit_session.Tie as tie
 
@@ -14,10 +14,10 @@ shared-slice-read-head : tie.Need-shared-slice-read-head
 shared-slice-read-head c = omega (arith, (fit-few c.before.before.before.args.table.now c.before.before.before.requires).long)
 
 head-requires : tie.Need-head-requires
-head-requires c κs = (fit-few c.before.before.before.args.table.now c.before.before.before.requires).fewSignals
+head-requires c κs = (fit-few c.before.before.before.args.table.now c.before.before.before.requires).few_signals
 
 returns : tie.Need-returns
-returns c = for-table c.before.before.before.before.before.args.table.now c.before.before.before.before.before.args.words.now _ (decides-no _ (λ f. c.before.head.ensures.fails (not-true _ c.if1.true) (fit-head c.before.before.before.before.before.args.table.now c.before.before.before.before.before.args.words.now (fits c.before.before.before.before.before.args.table.now c.before.before.before.before.before.requires) f.session f.holds f.fit)))
+returns c = for_table c.before.before.before.before.before.args.table.now c.before.before.before.before.before.args.words.now _ (decides_no _ (λ f. c.before.head.ensures.fails (not-true _ c.if1.true) (fit-head c.before.before.before.before.before.args.table.now c.before.before.before.before.before.args.words.now (fits c.before.before.before.before.before.args.table.now c.before.before.before.before.before.requires) f.session f.holds f.fit)))
 
 slice-aggregate-owners : tie.Need-slice-aggregate-owners
 slice-aggregate-owners c = search rules
@@ -35,9 +35,9 @@ signals-requires c κs =
 
 returns-3 : tie.Need-returns-3
 returns-3 c =
-    for-table c.before.before.before.before.before.before.before.before.before.before.before.args.table.now c.before.before.before.before.before.before.before.before.before.before.before.args.words.now _
+    for_table c.before.before.before.before.before.before.before.before.before.before.before.args.table.now c.before.before.before.before.before.before.before.before.before.before.before.args.words.now _
     (record {
-      holds = λ z. session-is-fit c.before.before.before.before.before.before.before.before.before.before.before.args.table.now c.before.before.before.before.before.before.before.before.before.before.before.args.words.now _ (fits c.before.before.before.before.before.before.before.before.before.before.before.args.table.now c.before.before.before.before.before.before.before.before.before.before.before.requires) (fit-rows c.before.before.before.before.before.before.before.before.before.before.before.args.table.now c.before.before.before.before.before.before.before.before.before.before.before.requires) (c.before.before.before.before.owners.ensures.holds (not-false _ c.before.before.if2.false)) (c.before.before.before.before.before.before.before.head.ensures.holds (not-false _ c.before.before.before.before.before.before.if1.false)) (c.signals.ensures.holds z);
+      holds = λ z. session_is_fit c.before.before.before.before.before.before.before.before.before.before.before.args.table.now c.before.before.before.before.before.before.before.before.before.before.before.args.words.now _ (fits c.before.before.before.before.before.before.before.before.before.before.before.args.table.now c.before.before.before.before.before.before.before.before.before.before.before.requires) (fit-rows c.before.before.before.before.before.before.before.before.before.before.before.args.table.now c.before.before.before.before.before.before.before.before.before.before.before.requires) (c.before.before.before.before.owners.ensures.holds (not-false _ c.before.before.if2.false)) (c.before.before.before.before.before.before.before.head.ensures.holds (not-false _ c.before.before.before.before.before.before.if1.false)) (c.signals.ensures.holds z);
       fails = λ z f. c.signals.ensures.fails z (fit-signals c.before.before.before.before.before.before.before.before.before.before.before.args.table.now c.before.before.before.before.before.before.before.before.before.before.before.args.words.now _ (fits c.before.before.before.before.before.before.before.before.before.before.before.args.table.now c.before.before.before.before.before.before.before.before.before.before.before.requires) (fit-rows c.before.before.before.before.before.before.before.before.before.before.before.args.table.now c.before.before.before.before.before.before.before.before.before.before.before.requires) (c.before.before.before.before.owners.ensures.holds (not-false _ c.before.before.if2.false)) f.session f.holds f.fit);
     })
 

@@ -3,24 +3,24 @@
 use borrow.Author.Tests.{not-true, not-false}
 use borrow.Author.Rules.{rules}
 use native.Mathlib.Omega.{arith}
-use Rattle.laws.proofs.Deciding.{decides-no}
+use Rattle.laws.proofs.Deciding.{decides_no}
 use Rattle.fitness_session.proofs.head.Statement.{statement}
 use Rattle.fitness_session.proofs.head.Tie as tie
 
 returns : tie.Need-returns
-returns c = decides-no _ (λ h. omega (arith, h.long))
+returns c = decides_no _ (λ h. omega (arith, h.long))
 
 shared-slice-read-if2 : tie.Need-shared-slice-read-if2
 shared-slice-read-if2 c = search rules
 
 returns-2 : tie.Need-returns-2
-returns-2 c = decides-no _ (λ h. c.if2.true h.count)
+returns-2 c = decides_no _ (λ h. c.if2.true h.count)
 
 shared-slice-read-if3 : tie.Need-shared-slice-read-if3
 shared-slice-read-if3 c = search rules
 
 returns-3 : tie.Need-returns-3
-returns-3 c = decides-no _ (λ h. omega (arith, h.early))
+returns-3 c = decides_no _ (λ h. omega (arith, h.early))
 
 add-end : tie.Need-overflow-add-end
 add-end c = search rules
@@ -29,7 +29,7 @@ within-requires : tie.Need-within-requires
 within-requires c κs = search rules
 
 returns-4 : tie.Need-returns-4
-returns-4 c = decides-no _ (λ h. c.before.within.ensures.fails (not-true _ c.if4.true) h.values)
+returns-4 c = decides_no _ (λ h. c.before.within.ensures.fails (not-true _ c.if4.true) h.values)
 
 zeros-requires : tie.Need-zeros-requires
 zeros-requires c κs = search rules
@@ -42,9 +42,9 @@ returns-5 c =
         count = c.before.before.before.before.before.if2.false;
         early = omega arith;
         values = c.before.before.within.ensures.holds (not-false _ c.before.if4.false);
-        noValues = c.zeros.ensures.holds z;
+        no_values = c.zeros.ensures.holds z;
       };
-      fails = λ z h. c.zeros.ensures.fails z h.noValues;
+      fails = λ z h. c.zeros.ensures.fails z h.no_values;
     }
 
 pub head_spec : {M : Type 1} → statement M

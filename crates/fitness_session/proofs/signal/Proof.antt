@@ -2,8 +2,8 @@
 -- Assumes nothing.
 use borrow.Author.Rules.{rules}
 use native.Mathlib.Omega.{arith}
-use Rattle.laws.proofs.Deciding.{decides-no}
-use Rattle.fitness_session.proofs.Whole.{most-few}
+use Rattle.laws.proofs.Deciding.{decides_no}
+use Rattle.fitness_session.proofs.Whole.{most_few}
 use Rattle.fitness_session.proofs.signal.Statement.{statement}
 use Rattle.fitness_session.proofs.signal.Tie as tie
 
@@ -20,7 +20,7 @@ most-for-requires : tie.Need-most-for-requires
 most-for-requires c κs = search rules
 
 returns : tie.Need-returns
-returns c = decides-no _ (λ s. omega (arith, s.few))
+returns c = decides_no _ (λ s. omega (arith, s.few))
 
 mul-changes : tie.Need-overflow-mul-changes
 mul-changes c = search rules
@@ -32,7 +32,7 @@ shared-slice-read-changes : tie.Need-shared-slice-read-changes
 shared-slice-read-changes c = search rules
 
 changes-requires : tie.Need-changes-requires
-changes-requires c κs = (omega arith, (omega (arith, most-few c.before.before.before.before.before.args.driver), c.before.before.before.before.before.requires.1.0))
+changes-requires c κs = (omega arith, (omega (arith, most_few c.before.before.before.before.before.args.driver), c.before.before.before.before.before.requires.1.0))
 
 returns-2 : tie.Need-returns-2
 returns-2 c =

@@ -5,7 +5,7 @@ use borrow.Author.Count.{below_more}
 use borrow.Author.Tests.{not-true, not-false}
 use borrow.Author.Rules.{rules}
 use native.Mathlib.Omega.{arith}
-use Rattle.laws.proofs.Deciding.{decides-yes, decides-no}
+use Rattle.laws.proofs.Deciding.{decides_yes, decides_no}
 use Rattle.fitness_session.specs.Inside.Parts.{Signals}
 use Rattle.fitness_session.proofs.signals.Statement.{statement}
 use Rattle.fitness_session.proofs.signals.Tie as tie
@@ -26,7 +26,7 @@ signal-requires : tie.Need-signal-requires invariant-loop decreases-loop
 signal-requires c κs = (c.before.before.before.before.requires.0, (c.before.before.before.before.requires.1, omega arith))
 
 returns : tie.Need-returns invariant-loop decreases-loop
-returns c = decides-no _ (λ a. c.before.signal.ensures.fails (not-true _ c.if1.true) (a c.before.before.before.before.loop.k c.before.before.before.loop-test.true))
+returns c = decides_no _ (λ a. c.before.signal.ensures.fails (not-true _ c.if1.true) (a c.before.before.before.before.loop.k c.before.before.before.loop-test.true))
 
 add-k : tie.Need-overflow-add-k invariant-loop decreases-loop
 add-k c = search rules
@@ -38,7 +38,7 @@ loop-again : tie.Need-loop-preserved invariant-loop decreases-loop
 loop-again c = (omega arith, below_more _ _ c.before.before.before.before.loop.invariant.1 (c.before.signal.ensures.holds (not-false _ c.if1.false)))
 
 returns-2 : tie.Need-returns-2 invariant-loop decreases-loop
-returns-2 c = decides-yes _ (λ i l. c.before.loop.invariant.1 i (omega arith))
+returns-2 c = decides_yes _ (λ i l. c.before.loop.invariant.1 i (omega arith))
 
 pub signals-spec : {M : Type 1} → statement M
 signals-spec =

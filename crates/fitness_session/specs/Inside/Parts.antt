@@ -2,7 +2,7 @@
 use Rattle.std.specs.Prelude.{ℕ, ◌+◌, ◌*◌, ◌/◌, ◌≤◌, ◌<◌, ◌≡◌, List, eqb, length, get_or}
 use Rattle.laws.specs.Pick.{pick}
 use Rattle.words.specs.Unit.{longest}
-use Rattle.rules.specs.Sizes.{mostPending}
+use Rattle.rules.specs.Sizes.{most_pending}
 use Rattle.fitness.specs.Inside.Parts.{Within}
 
 -- how many signals there are, the time and the values
@@ -11,7 +11,7 @@ pub record Head (words : List ℕ) (signals : ℕ) : Type 0 where
   pub count : get_or words 0 0 ≡ signals
   pub early : get_or words 1 0 ≤ longest
   pub values : Within words 2 (2 + signals) 1
-  pub noValues : Within words (2 + signals) 66 0
+  pub no_values : Within words (2 + signals) 66 0
 
 -- the changes of one signal, from a place on, at this time: later, near, rising, and behind them zeros
 pub record Changes (words : List ℕ) (from count time : ℕ) : Type 0 where
@@ -21,12 +21,12 @@ pub record Changes (words : List ℕ) (from count time : ℕ) : Type 0 where
   pub unused : Within words (from + count) (from + 16) 0
 
 -- how many may be pending for a signal with this driver, 0 for none
-unfoldable pub mostFor : ℕ → ℕ
-mostFor driver = pick (eqb driver 0) 0 mostPending
+unfoldable pub most_for : ℕ → ℕ
+most_for driver = pick (eqb driver 0) 0 most_pending
 
 -- what is pending for signal k is fit
 pub record Signal (words : List ℕ) (driver k : ℕ) : Type 0 where
-  pub few : get_or words (66 + k) 0 ≤ mostFor driver
+  pub few : get_or words (66 + k) 0 ≤ most_for driver
   pub changes : Changes words (130 + 16 * k) (get_or words (66 + k) 0) (get_or words 1 0)
 
 -- for the first n signals

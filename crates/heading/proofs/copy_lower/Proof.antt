@@ -9,7 +9,7 @@ use lib.ListN.{length, take}
 use lib.Seq.{sets, length-sets, take_all}
 use Rattle.laws.proofs.Lists.{copied_more}
 use Rattle.words.specs.Vocabulary.{lower}
-use Rattle.heading.proofs.Rows.{lower-at, lower-length}
+use Rattle.heading.proofs.Rows.{lower_at, lower-length}
 use Rattle.heading.proofs.copy_lower.Statement.{statement}
 use Rattle.heading.proofs.copy_lower.Tie as tie
 
@@ -43,7 +43,7 @@ loop-less c = search rules
 loop-again : tie.Need-loop-preserved invariant-loop decreases-loop
 loop-again c = (
   omega arith,
-  rw (add-one c.before.before.before.loop.i, c.lower.ensures, ← (lower-at c.before.before.before.before.before.before.args.run.now c.before.before.before.loop.i c.before.before.loop-test.true))
+  rw (add-one c.before.before.before.loop.i, c.lower.ensures, ← (lower_at c.before.before.before.before.before.before.args.run.now c.before.before.before.loop.i c.before.before.loop-test.true))
       (copied_more c.before.before.before.before.before.before.args.out.now c.before.before.before.before.before.before.args.at c.before.before.before.loop.i (lower c.before.before.before.before.before.before.args.run.now) c.before.before.before.loop.out (rw (lower-length c.before.before.before.before.before.before.args.run.now) c.before.before.loop-test.true) c.before.before.before.loop.invariant.1),
 )
 

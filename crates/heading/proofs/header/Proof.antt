@@ -4,7 +4,7 @@ use Prim.Native.Nat.{◌-◌}
 use mathlib.Core.Path.{refl}
 use borrow.Author.Rules.{rules}
 use Rattle.heading.specs.Headed.{short, turned}
-use Rattle.heading.proofs.Rows.{survey-refused, survey-accepted}
+use Rattle.heading.proofs.Rows.{survey_refused, survey_accepted}
 use Rattle.heading.proofs.header.Statement.{statement}
 use Rattle.heading.proofs.header.Tie as tie
 
@@ -27,10 +27,10 @@ enum_told : tie.Need-enum-told
 enum_told c = search rules
 
 show-requires : tie.Need-show-requires
-show-requires c κs = (survey-accepted c.before.before.before.before.before.survey.ensures c.before.before.enum_told.given.1, c.before.before.before.before.before.before.before.before.before.if1.false)
+show-requires c κs = (survey_accepted c.before.before.before.before.before.survey.ensures c.before.before.enum_told.given.1, c.before.before.before.before.before.before.before.before.before.if1.false)
 
 returns-2 : tie.Need-returns-2
-returns-2 c = (turned c.before.before.before.before.before.before.before.before.if1.false (survey-refused c.before.before.before.before.survey.ensures c.before.number.given.1), refl)
+returns-2 c = (turned c.before.before.before.before.before.before.before.before.if1.false (survey_refused c.before.before.before.before.survey.ensures c.before.number.given.1), refl)
 
 same_length : tie.Need-same-length
 same_length c = search rules

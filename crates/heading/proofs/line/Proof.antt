@@ -4,7 +4,7 @@ use Prim.Native.Nat.{◌-◌}
 use native.Mathlib.Omega.{arith}
 use borrow.Author.Rules.{rules}
 use Rattle.look.specs.Inside.Looks.{name_at}
-use Rattle.heading.proofs.Rows.{line-written, variable-length}
+use Rattle.heading.proofs.Rows.{line_written, variable-length}
 use Rattle.heading.proofs.line.Statement.{statement}
 use Rattle.heading.proofs.line.Tie as tie
 
@@ -36,7 +36,7 @@ same_length : tie.Need-same-length
 same_length c = omega (arith, c.before.before.before.before.before.before.before.before.before.before.before.before.before.before.before.before.before.before.out.given, c.before.before.before.before.before.before.before.before.before.before.before.before.before.before.out2.given, c.before.before.before.before.before.before.before.before.before.before.out3.given, c.before.before.before.before.before.before.out4.given, c.before.out5.given)
 
 returns : tie.Need-returns
-returns c = line-written c.before.before.before.before.before.before.before.before.before.before.before.before.before.before.before.before.before.before.before.before.before.before.before.before.args.k c.before.before.before.before.before.before.before.before.before.before.before.before.before.before.before.before.before.before.before.copy.ensures c.before.before.before.before.before.before.before.before.before.before.before.before.before.before.before.put.ensures c.before.before.before.before.before.before.before.before.before.before.before.put2.ensures c.before.before.before.before.before.before.before.copy_name.ensures c.before.before.copy2.ensures
+returns c = line_written c.before.before.before.before.before.before.before.before.before.before.before.before.before.before.before.before.before.before.before.before.before.before.before.before.args.k c.before.before.before.before.before.before.before.before.before.before.before.before.before.before.before.before.before.before.before.copy.ensures c.before.before.before.before.before.before.before.before.before.before.before.before.before.before.before.put.ensures c.before.before.before.before.before.before.before.before.before.before.before.put2.ensures c.before.before.before.before.before.before.before.copy_name.ensures c.before.before.copy2.ensures
 
 pub line-spec : {M : Type 1} → statement M
 line-spec =

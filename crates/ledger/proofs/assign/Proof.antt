@@ -6,7 +6,7 @@ use borrow.Author.Rules.{rules}
 use Rattle.names.specs.Roles.{assigns}
 use Rattle.names.specs.Judge.{fine, assigned}
 use Rattle.look.specs.Inside.Looks.{name_at}
-use Rattle.ledger.specs.Inside.Standing.{keepsFine}
+use Rattle.ledger.specs.Inside.Standing.{keeps_fine}
 use Rattle.ledger.proofs.Keeping.{standing, sound-size, held, stays, no_number, numbers, number-below}
 use Rattle.ledger.proofs.Judging.{undeclared-refused, assign-refused, driven-stands, assign-counted}
 use Rattle.ledger.proofs.assign.Statement.{statement}
@@ -66,7 +66,7 @@ returns-3 c =
 add-ledger : tie.Need-overflow-add-ledger
 add-ledger c =
     let s = (standing c.before.before.before.before.before.before.before.before.before.before.before.requires.0 c.before.before.before.before.before.before.before.before.if1.false).stands in
-    record { fits = omega (arith, s.processesAre, s.fewProcesses) }
+    record { fits = omega (arith, s.processes_are, s.few_processes) }
 
 add-ledger-2 : tie.Need-overflow-add-ledger-2
 add-ledger-2 c =
@@ -91,7 +91,7 @@ count-requires c κs =
     let size = sound-size c.before.before.before.before.before.before.before.before.before.before.before.before.requires.0 in
     let few = number-below (name_at c.before.before.before.before.before.before.before.before.before.before.before.before.args.text.now c.before.before.before.before.before.before.before.before.before.before.before.before.args.start c.before.before.before.before.before.before.before.before.before.before.before.before.args.end) c.before.before.before.before.before.before.find.result (standing c.before.before.before.before.before.before.before.before.before.before.before.before.requires.0 c.before.before.before.before.before.before.before.before.before.if1.false) c.before.before.before.before.before.before.find.ensures c.before.before.before.before.before.if2.false in
     let s = standing c.before.before.before.before.before.before.before.before.before.before.before.before.requires.0 c.before.before.before.before.before.before.before.before.before.if1.false in
-    (held record { judgement = fine (assigned c.before.before.before.before.before.before.find.result s.state); keeps = keepsFine (driven-stands c.before.before.before.before.before.before.before.before.before.before.before.before.args.text.now c.before.before.before.before.before.before.before.before.before.before.before.before.args.ledger.now c.before.before.before.before.before.before.before.before.before.before.before.before.args.start (sound-size c.before.before.before.before.before.before.before.before.before.before.before.before.requires.0) c.before.before.before.before.before.before.before.before.before.if1.false (name_at c.before.before.before.before.before.before.before.before.before.before.before.before.args.text.now c.before.before.before.before.before.before.before.before.before.before.before.before.args.start c.before.before.before.before.before.before.before.before.before.before.before.before.args.end) c.before.before.before.before.before.before.find.result c.before.before.before.before.before.before.find.ensures c.before.before.before.before.before.if2.false few c.before.before.is-earlier.result c.before.before.is-earlier.ensures c.before.if3.false s.stands) }, omega arith)
+    (held record { judgement = fine (assigned c.before.before.before.before.before.before.find.result s.state); keeps = keeps_fine (driven-stands c.before.before.before.before.before.before.before.before.before.before.before.before.args.text.now c.before.before.before.before.before.before.before.before.before.before.before.before.args.ledger.now c.before.before.before.before.before.before.before.before.before.before.before.before.args.start (sound-size c.before.before.before.before.before.before.before.before.before.before.before.before.requires.0) c.before.before.before.before.before.before.before.before.before.if1.false (name_at c.before.before.before.before.before.before.before.before.before.before.before.before.args.text.now c.before.before.before.before.before.before.before.before.before.before.before.before.args.start c.before.before.before.before.before.before.before.before.before.before.before.before.args.end) c.before.before.before.before.before.before.find.result c.before.before.before.before.before.before.find.ensures c.before.before.before.before.before.if2.false few c.before.before.is-earlier.result c.before.before.is-earlier.ensures c.before.if3.false s.stands) }, omega arith)
 
 returns-4 : tie.Need-returns-4
 returns-4 c =

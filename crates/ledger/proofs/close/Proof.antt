@@ -3,7 +3,7 @@
 use native.Mathlib.Omega.{arith}
 use Rattle.names.specs.Roles.{closes}
 use Rattle.look.specs.Inside.Looks.{name_at}
-use Rattle.ledger.specs.Inside.Standing.{nameOption}
+use Rattle.ledger.specs.Inside.Standing.{name_option}
 use Rattle.ledger.proofs.Judging.{closes_as}
 use Rattle.ledger.proofs.close.Statement.{statement}
 use Rattle.ledger.proofs.close.Tie as tie
@@ -12,7 +12,7 @@ expect-requires : tie.Need-expect-requires
 expect-requires c κs = (c.before.before.requires.0, (c.before.before.requires.1.0, c.before.before.requires.1.1, omega arith))
 
 returns : tie.Need-returns
-returns c = c.expect.ensures (closes (nameOption c.before.before.before.args.text.now c.before.before.before.args.from c.before.before.before.args.to) (name_at c.before.before.before.args.text.now c.before.before.before.args.start c.before.before.before.args.end))
+returns c = c.expect.ensures (closes (name_option c.before.before.before.args.text.now c.before.before.before.args.from c.before.before.before.args.to) (name_at c.before.before.before.args.text.now c.before.before.before.args.start c.before.before.before.args.end))
     (closes_as c.before.before.before.args.text.now c.before.before.before.args.from c.before.before.before.args.to c.before.before.before.args.start c.before.before.before.args.end c.before.before.before.requires.1.0 c.before.before.before.requires.1.1 c.before.before.before.requires.1.2 c.before.before.before.args.start)
 
 pub close_spec : {M : Type 1} → statement M

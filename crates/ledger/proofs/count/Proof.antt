@@ -20,7 +20,7 @@ element-copy-out-all c = search rules
 add-all : tie.Need-overflow-add-all
 add-all c =
     let s = (standing c.before.before.before.requires.0.sound c.before.if1.false).stands in
-    record { fits = omega (arith, s.instructionsAre, s.fewInstructions, c.before.before.before.requires.1) }
+    record { fits = omega (arith, s.instructions_are, s.few_instructions, c.before.before.before.requires.1) }
 
 refuse-requires : tie.Need-refuse-requires
 refuse-requires c κs = sound-size c.before.before.before.before.before.requires.0.sound

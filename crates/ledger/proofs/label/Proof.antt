@@ -3,7 +3,7 @@
 use native.Mathlib.Omega.{arith}
 use borrow.Author.Rules.{rules}
 use Rattle.ledger.proofs.Keeping.{standing, sound-size, stays}
-use Rattle.ledger.proofs.Judging.{label-used, label-fine}
+use Rattle.ledger.proofs.Judging.{label_used, label_fine}
 use Rattle.ledger.proofs.label.Statement.{statement}
 use Rattle.ledger.proofs.label.Tie as tie
 
@@ -22,15 +22,15 @@ refuse-requires : tie.Need-refuse-requires
 refuse-requires c κs = sound-size c.before.before.before.before.before.before.before.requires.0
 
 returns-2 : tie.Need-returns-2
-returns-2 c = label-used c.before.before.before.before.before.before.before.before.args.text.now c.before.before.before.before.before.before.before.before.args.ledger.now c.before.before.before.before.before.before.before.before.args.start (sound-size c.before.before.before.before.before.before.before.before.requires.0) c.before.before.before.before.before.if1.false c.before.before.before.before.before.before.before.before.args.end c.before.before.before.before.before.before.before.before.requires.1 c.before.before.before.is-used.result c.before.before.before.is-used.ensures c.before.before.if2.true c.refuse.ensures
+returns-2 c = label_used c.before.before.before.before.before.before.before.before.args.text.now c.before.before.before.before.before.before.before.before.args.ledger.now c.before.before.before.before.before.before.before.before.args.start (sound-size c.before.before.before.before.before.before.before.before.requires.0) c.before.before.before.before.before.if1.false c.before.before.before.before.before.before.before.before.args.end c.before.before.before.before.before.before.before.before.requires.1 c.before.before.before.is-used.result c.before.before.before.is-used.ensures c.before.before.if2.true c.refuse.ensures
 
 add-requires : tie.Need-add-requires
 add-requires c κs =
     let s = (standing c.before.before.before.before.before.before.before.requires.0 c.before.before.before.before.if1.false).stands in
-    (sound-size c.before.before.before.before.before.before.before.requires.0, (omega arith, omega arith, omega (arith, s.fewLabels, s.fewProcesses)))
+    (sound-size c.before.before.before.before.before.before.before.requires.0, (omega arith, omega arith, omega (arith, s.few_labels, s.few_processes)))
 
 returns-3 : tie.Need-returns-3
-returns-3 c = label-fine c.before.before.before.before.before.before.before.before.args.text.now c.before.before.before.before.before.before.before.before.args.ledger.now c.before.before.before.before.before.before.before.before.args.start (sound-size c.before.before.before.before.before.before.before.before.requires.0) c.before.before.before.before.before.if1.false c.before.before.before.before.before.before.before.before.args.end c.before.before.before.before.before.before.before.before.requires.1 c.before.before.before.is-used.result c.before.before.before.is-used.ensures c.before.before.if2.false c.add.ensures
+returns-3 c = label_fine c.before.before.before.before.before.before.before.before.args.text.now c.before.before.before.before.before.before.before.before.args.ledger.now c.before.before.before.before.before.before.before.before.args.start (sound-size c.before.before.before.before.before.before.before.before.requires.0) c.before.before.before.before.before.if1.false c.before.before.before.before.before.before.before.before.args.end c.before.before.before.before.before.before.before.before.requires.1 c.before.before.before.is-used.result c.before.before.before.is-used.ensures c.before.before.if2.false c.add.ensures
 
 pub label-spec : {M : Type 1} → statement M
 label-spec =

@@ -5,7 +5,7 @@ use borrow.Author.Rules.{rules}
 use Rattle.names.specs.Roles.{listens}
 use Rattle.look.specs.Inside.Looks.{name_at}
 use Rattle.ledger.proofs.Keeping.{standing, sound-size, stays, no_number, numbers}
-use Rattle.ledger.proofs.Judging.{undeclared-refused, listen-fine}
+use Rattle.ledger.proofs.Judging.{undeclared-refused, listen_fine}
 use Rattle.ledger.proofs.listen.Statement.{statement}
 use Rattle.ledger.proofs.listen.Tie as tie
 
@@ -28,7 +28,7 @@ returns-2 : tie.Need-returns-2
 returns-2 c = (undeclared-refused c.before.before.before.before.before.before.before.before.before.args.text.now c.before.before.before.before.before.before.before.before.before.args.ledger.now c.before.before.before.before.before.before.before.before.before.args.start (sound-size c.before.before.before.before.before.before.before.before.before.requires.0) c.before.before.before.before.before.before.if1.false (name_at c.before.before.before.before.before.before.before.before.before.args.text.now c.before.before.before.before.before.before.before.before.before.args.start c.before.before.before.before.before.before.before.before.before.args.end) c.before.before.before.find.result c.before.before.before.find.ensures (listens (name_at c.before.before.before.before.before.before.before.before.before.args.text.now c.before.before.before.before.before.before.before.before.before.args.start c.before.before.before.before.before.before.before.before.before.args.end)) _ (λ y. refl) c.before.before.if2.true c.refuse.ensures, numbers c.before.before.before.find.result (standing c.before.before.before.before.before.before.before.before.before.requires.0 c.before.before.before.before.before.before.if1.false) c.before.before.before.find.ensures)
 
 returns-3 : tie.Need-returns-3
-returns-3 c = (listen-fine c.before.before.before.before.before.before.before.args.text.now c.before.before.before.before.before.before.before.args.ledger.now c.before.before.before.before.before.before.before.args.start (sound-size c.before.before.before.before.before.before.before.requires.0) c.before.before.before.before.if1.false (name_at c.before.before.before.before.before.before.before.args.text.now c.before.before.before.before.before.before.before.args.start c.before.before.before.before.before.before.before.args.end) c.before.find.result c.before.find.ensures c.if2.false, numbers c.before.find.result (standing c.before.before.before.before.before.before.before.requires.0 c.before.before.before.before.if1.false) c.before.find.ensures)
+returns-3 c = (listen_fine c.before.before.before.before.before.before.before.args.text.now c.before.before.before.before.before.before.before.args.ledger.now c.before.before.before.before.before.before.before.args.start (sound-size c.before.before.before.before.before.before.before.requires.0) c.before.before.before.before.if1.false (name_at c.before.before.before.before.before.before.before.args.text.now c.before.before.before.before.before.before.before.args.start c.before.before.before.before.before.before.before.args.end) c.before.find.result c.before.find.ensures c.if2.false, numbers c.before.find.result (standing c.before.before.before.before.before.before.before.requires.0 c.before.before.before.before.if1.false) c.before.find.ensures)
 
 pub listen-spec : {M : Type 1} → statement M
 listen-spec =

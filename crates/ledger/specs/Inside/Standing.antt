@@ -6,10 +6,10 @@ use Rattle.laws.specs.Pick.{pick, within}
 use Rattle.laws.specs.Text.{bytes}
 use Rattle.words.specs.declared.unit.TimeUnit.{TimeUnit}
 use Rattle.words.specs.Token.{Name}
-use Rattle.words.specs.Unit.{femtosecondsOf, longest}
+use Rattle.words.specs.Unit.{femtoseconds_of, longest}
 use Rattle.look.specs.Inside.Looks.{name_at}
 use Rattle.names.specs.Roles.{Role}
-use Rattle.names.specs.Judge.{State, Judgement, fine, refused, onward, judge, isAmong, number_of, has}
+use Rattle.names.specs.Judge.{State, Judgement, fine, refused, onward, judge, is_among, number_of, has}
 
 -- from start to end is a part of the text
 pub record Span (text : List ℕ) (start end : ℕ) : Type 0 where
@@ -24,9 +24,9 @@ pub record Shelf (text ledger : List ℕ) (base count : ℕ) : Type 0 where
   pub room : base + 2 * count ≤ 328
   pub spans : (i : ℕ) → i < count → Span text (get_or ledger (base + 2 * i) 0) (get_or ledger (base + 2 * i + 1) 0)
 
-unfoldable pub namesFrom : (text ledger : List ℕ) → (base count : ℕ) → List Name
-namesFrom text ledger base zero = []
-namesFrom text ledger base (suc count) = name_at text (get_or ledger base 0) (get_or ledger (base + 1) 0) ∷ namesFrom text ledger (base + 2) count
+unfoldable pub names_from : (text ledger : List ℕ) → (base count : ℕ) → List Name
+names_from text ledger base zero = []
+names_from text ledger base (suc count) = name_at text (get_or ledger base 0) (get_or ledger (base + 1) 0) ∷ names_from text ledger (base + 2) count
 
 -- one more name, where the word at counter says how many there are
 abbrev pub added : (ledger : List ℕ) (counter base start end : ℕ) → List ℕ
@@ -34,46 +34,46 @@ added ledger counter base start end =
     set (set (set ledger (base + 2 * get_or ledger counter 0) start) (base + 2 * get_or ledger counter 0 + 1) end) counter (get_or ledger counter 0 + 1)
 
 -- the name is that of a signal or a label
-abbrev pub usedIn : (text ledger : List ℕ) → Name → Bool
-usedIn text ledger n = isAmong n (namesFrom text ledger 6 (get_or ledger 2 0)) || isAmong n (namesFrom text ledger 134 (get_or ledger 3 0))
+abbrev pub used_in : (text ledger : List ℕ) → Name → Bool
+used_in text ledger n = is_among n (names_from text ledger 6 (get_or ledger 2 0)) || is_among n (names_from text ledger 134 (get_or ledger 3 0))
 
 -- a name that may be missing: then it starts where it ends
-abbrev pub nameOption : (text : List ℕ) (start end : ℕ) → Option Name
-nameOption text start end = pick (ltb start end) (some (name_at text start end)) none
+abbrev pub name_option : (text : List ℕ) (start end : ℕ) → Option Name
+name_option text start end = pick (ltb start end) (some (name_at text start end)) none
 
 -- THE WORDS AND A STATE
 
 -- the word of a signal, one more than the number of its process, and what the processes before the last and the last one assign
 pub record Driven (driver signal : ℕ) (y : State) : Type 0 where
-  pub earlierOnes : has signal y.earlier ≡ within 1 y.processes driver
-  pub lastOne : has signal y.current ≡ eqb driver (y.processes + 1)
+  pub earlier_ones : has signal y.earlier ≡ within 1 y.processes driver
+  pub last_one : has signal y.current ≡ eqb driver (y.processes + 1)
   pub known : driver ≤ y.processes + 1
 
 -- the words stand for the state y, with so many labels at most whose process is not yet opened
 pub record Standing (unopened : ℕ) (text ledger : List ℕ) (y : State) : Type 0 where
   pub clear : get_or ledger 0 0 ≡ 0
   pub signals : Shelf text ledger 6 (get_or ledger 2 0)
-  pub signalsAre : y.signalNames ≡ namesFrom text ledger 6 (get_or ledger 2 0)
-  pub fewSignals : get_or ledger 2 0 ≤ 64
+  pub signals_are : y.signal_names ≡ names_from text ledger 6 (get_or ledger 2 0)
+  pub few_signals : get_or ledger 2 0 ≤ 64
   pub labels : Shelf text ledger 134 (get_or ledger 3 0)
-  pub labelsAre : (n : Name) → isAmong n y.labelNames ≡ isAmong n (namesFrom text ledger 134 (get_or ledger 3 0))
-  pub fewLabels : get_or ledger 3 0 ≤ y.processes + unopened
-  pub processesAre : get_or ledger 4 0 ≡ y.processes
-  pub fewProcesses : y.processes ≤ 64
-  pub instructionsAre : get_or ledger 5 0 ≡ y.instructions
-  pub fewInstructions : y.instructions ≤ 4096
+  pub labels_are : (n : Name) → is_among n y.label_names ≡ is_among n (names_from text ledger 134 (get_or ledger 3 0))
+  pub few_labels : get_or ledger 3 0 ≤ y.processes + unopened
+  pub processes_are : get_or ledger 4 0 ≡ y.processes
+  pub few_processes : y.processes ≤ 64
+  pub instructions_are : get_or ledger 5 0 ≡ y.instructions
+  pub few_instructions : y.instructions ≤ 4096
   pub drivers : (k : ℕ) → k < 64 → Driven (get_or ledger (264 + k) 0) k y
 
 pub record Refusing (ledger : List ℕ) (number place : ℕ) : Type 0 where
   pub size : length ledger ≡ 328
-  pub numberIs : get_or ledger 0 0 ≡ number
-  pub placeIs : get_or ledger 1 0 ≡ place
+  pub number_is : get_or ledger 0 0 ≡ number
+  pub place_is : get_or ledger 1 0 ≡ place
   pub some : 0 < number
 
 -- the words stand for a judgement
 pub data Keeps (unopened : ℕ) (text ledger : List ℕ) : Judgement → Type 0 where
-  keepsFine : {y : State} → Standing unopened text ledger y → Keeps unopened text ledger (fine y)
-  keepsRefused : {number place : ℕ} → Refusing ledger number place → Keeps unopened text ledger (refused number place)
+  keeps_fine : {y : State} → Standing unopened text ledger y → Keeps unopened text ledger (fine y)
+  keeps_refused : {number place : ℕ} → Refusing ledger number place → Keeps unopened text ledger (refused number place)
 
 -- for some judgement; and for some text
 pub record Sound (unopened : ℕ) (text ledger : List ℕ) : Type 0 where
@@ -92,27 +92,27 @@ pub record Judges (before after : ℕ) (text : List ℕ) (role : Role) (place : 
 
 -- the number of the signal of a name
 pub record Numbers (text ledger : List ℕ) (n : Name) (r : ℕ) : Type 0 where
-  pub numberIs : (y : State) → Keeps 0 text ledger (fine y) → r ≡ number_of n y.signalNames
+  pub number_is : (y : State) → Keeps 0 text ledger (fine y) → r ≡ number_of n y.signal_names
   pub few : r ≤ 64
 
 -- an amount of a unit in femtoseconds, where it is not too long
 pub record Lasts (ledger : List ℕ) (amount : ℕ) (unit : TimeUnit) (r : ℕ) : Type 0 where
-  pub timeIs : get_or ledger 0 0 ≡ 0 → amount * femtosecondsOf unit ≤ longest → r ≡ amount * femtosecondsOf unit
+  pub time_is : get_or ledger 0 0 ≡ 0 → amount * femtoseconds_of unit ≤ longest → r ≡ amount * femtoseconds_of unit
   pub short : r ≤ longest
 
 -- EXAMPLES
 
 -- signals q and d of `signal Q, d`
-two-names : namesFrom (bytes "signal Q, d") (7 ∷ 8 ∷ 10 ∷ 11 ∷ []) 0 2 ≡ bytes "q" ∷ bytes "d" ∷ []
-unfolding namesFrom name_at
-two-names = refl
+two_names : names_from (bytes "signal Q, d") (7 ∷ 8 ∷ 10 ∷ 11 ∷ []) 0 2 ≡ bytes "q" ∷ bytes "d" ∷ []
+unfolding names_from name_at
+two_names = refl
 
 -- a process with the label `P`, and one without
-a-label : nameOption (bytes "P : process") 0 1 ≡ some (bytes "p")
+a_label : name_option (bytes "P : process") 0 1 ≡ some (bytes "p")
 unfolding name_at
-a-label = refl
+a_label = refl
 
-no_label : nameOption (bytes "P : process") 0 0 ≡ none
+no_label : name_option (bytes "P : process") 0 0 ≡ none
 no_label = refl
 
 -- behind two names, a third from 7 to 8

@@ -6,7 +6,7 @@ use native.Mathlib.Omega.{arith}
 use borrow.Author.Rules.{rules}
 use lib.ListN.{length}
 use Rattle.laws.proofs.Lists.{rest}
-use Rattle.lexis.specs.Token.{scanOf}
+use Rattle.lexis.specs.Token.{scan_of}
 use Rattle.lexis.specs.declared.token.Scan.TheVariants.{Token as scanned}
 use Rattle.lexis.proofs.Bounds.{Within, rest-within}
 use Rattle.lexis_bench.proofs.lexis_bench_names.Statement.{statement}
@@ -41,7 +41,7 @@ found : (c : tie.After-known-told invariant-loop decreases-loop)
     → Within (length c.before.before.before.before.before.before.before.before.args.text.now - c.before.before.before.before.before.before.loop.n) (scanned c.before.kind.given.0.0 c.before.kind.given.0.1.0 c.before.kind.given.0.1.1.0)
 found c =
     rest-within c.before.before.before.before.before.before.before.before.args.text.now c.before.before.before.before.before.before.loop.n _
-    (ap scanOf (sym (rest c.before.before.before.before.before.before.before.before.args.text.now c.before.before.before.before.before.before.loop.n)) ∙ sym c.before.before.before.next.ensures ∙ c.before.kind.given.1)
+    (ap scan_of (sym (rest c.before.before.before.before.before.before.before.before.args.text.now c.before.before.before.before.before.before.loop.n)) ∙ sym c.before.before.before.next.ensures ∙ c.before.kind.given.1)
 
 add-from : tie.Need-overflow-add-from invariant-loop decreases-loop
 add-from c = let w = found c in omega arith

@@ -4,7 +4,7 @@ use mathlib.Core.Path.{sym, ap, ◌∙◌}
 use native.Mathlib.Omega.{arith}
 use borrow.Author.Rules.{rules}
 use Rattle.laws.proofs.Lists.{rest}
-use Rattle.lexis.specs.Token.{scanOf}
+use Rattle.lexis.specs.Token.{scan_of}
 use Rattle.lexis.specs.declared.token.Scan.TheVariants.{Token as scanned}
 use Rattle.lexis.proofs.Bounds.{rest-within}
 use Rattle.look.specs.Inside.Looks.{look_of}
@@ -28,13 +28,13 @@ enum-known-kind c = search rules
 
 add-from : tie.Need-overflow-add-from
 add-from c =
-    let e = ap scanOf (sym (rest c.before.before.before.before.before.before.args.text.now c.before.before.before.before.before.before.args.at)) ∙ sym c.before.before.before.next.ensures ∙ c.before.kind.given.1 in
+    let e = ap scan_of (sym (rest c.before.before.before.before.before.before.args.text.now c.before.before.before.before.before.before.args.at)) ∙ sym c.before.before.before.next.ensures ∙ c.before.kind.given.1 in
     let w = rest-within c.before.before.before.before.before.before.args.text.now c.before.before.before.before.before.before.args.at (scanned c.before.kind.given.0.0 c.before.kind.given.0.1.0 c.before.kind.given.0.1.1.0) e in
     omega (arith, w.0, w.1)
 
 add-to : tie.Need-overflow-add-to
 add-to c =
-    let e = ap scanOf (sym (rest c.before.before.before.before.before.before.args.text.now c.before.before.before.before.before.before.args.at)) ∙ sym c.before.before.before.next.ensures ∙ c.before.kind.given.1 in
+    let e = ap scan_of (sym (rest c.before.before.before.before.before.before.args.text.now c.before.before.before.before.before.before.args.at)) ∙ sym c.before.before.before.next.ensures ∙ c.before.kind.given.1 in
     let w = rest-within c.before.before.before.before.before.before.args.text.now c.before.before.before.before.before.before.args.at (scanned c.before.kind.given.0.0 c.before.kind.given.0.1.0 c.before.kind.given.0.1.1.0) e in
     omega (arith, w.0, w.1)
 
@@ -46,7 +46,7 @@ part-kind-of-start c = search rules
 
 part-kind-of-end : tie.Need-slice-bounds-kind-of-end
 part-kind-of-end c =
-    let e = ap scanOf (sym (rest c.before.before.before.before.before.before.args.text.now c.before.before.before.before.before.before.args.at)) ∙ sym c.before.before.before.next.ensures ∙ c.before.kind.given.1 in
+    let e = ap scan_of (sym (rest c.before.before.before.before.before.before.args.text.now c.before.before.before.before.before.before.args.at)) ∙ sym c.before.before.before.next.ensures ∙ c.before.kind.given.1 in
     let w = rest-within c.before.before.before.before.before.before.args.text.now c.before.before.before.before.before.before.args.at (scanned c.before.kind.given.0.0 c.before.kind.given.0.1.0 c.before.kind.given.0.1.1.0) e in
     omega (arith, w.0, w.1)
 
@@ -62,19 +62,19 @@ enum-told-2 c = search rules
 returns : tie.Need-returns
 unfolding look_of
 returns c =
-    let e = ap scanOf (sym (rest c.before.before.before.before.before.before.before.before.args.text.now c.before.before.before.before.before.before.before.before.args.at)) ∙ sym c.before.before.before.before.before.next.ensures ∙ c.before.before.before.kind.given.1 in
-    rw (e, c.kind-of.ensures)
+    let e = ap scan_of (sym (rest c.before.before.before.before.before.before.before.before.args.text.now c.before.before.before.before.before.before.before.before.args.at)) ∙ sym c.before.before.before.before.before.next.ensures ∙ c.before.before.before.kind.given.1 in
+    rw (e, c.kind_of_lem.ensures)
 
 returns-2 : tie.Need-returns-2
 unfolding look_of
 returns-2 c =
-    let e = ap scanOf (sym (rest c.before.before.before.before.before.args.text.now c.before.before.before.before.before.args.at)) ∙ sym c.before.before.next.ensures ∙ c.enum_told.given.1 in
+    let e = ap scan_of (sym (rest c.before.before.before.before.before.args.text.now c.before.before.before.before.before.args.at)) ∙ sym c.before.before.next.ensures ∙ c.enum_told.given.1 in
     rw e
 
 returns-3 : tie.Need-returns-3
 unfolding look_of
 returns-3 c =
-    let e = ap scanOf (sym (rest c.before.before.before.before.before.args.text.now c.before.before.before.before.before.args.at)) ∙ sym c.before.before.next.ensures ∙ c.enum-told2.given.1 in
+    let e = ap scan_of (sym (rest c.before.before.before.before.before.args.text.now c.before.before.before.before.before.args.at)) ∙ sym c.before.before.next.ensures ∙ c.enum-told2.given.1 in
     rw e
 
 pub peek_spec : {M : Type 1} → statement M

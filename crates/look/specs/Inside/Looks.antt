@@ -4,16 +4,16 @@ use Rattle.std.specs.Prelude.{ℕ, zero, suc, ◌+◌, ◌-◌, ◌≡◌, refl,
 use Rattle.laws.specs.Pick.{same_list}
 use Rattle.laws.specs.Text.{bytes}
 use Rattle.words.specs.Integer.{value_of}
-use Rattle.words.specs.Vocabulary.{lower, subset, others, vocabulary, rowFrom, row_of}
+use Rattle.words.specs.Vocabulary.{lower, subset, others, vocabulary, row_from, row_of}
 use Rattle.words.specs.declared.unit.TimeUnit.{TimeUnit}
 use Rattle.words.specs.declared.unit.TimeUnit.TheVariants.{Fs, Ps, Ns, Us, Ms, Sec, Min, Hr}
 use Rattle.words.specs.Token.{Name, Once, NAND, NOR, Chain, AND, OR, XOR, XNOR}
 use Rattle.words.specs.Token.{ENTITY, IS, END, ARCHITECTURE, OF, SIGNAL, BEGIN, BOOLEAN, PROCESS, TRANSPORT, AFTER, IF, THEN, ELSE, NULL, NOT, OPEN, CLOSE, COMMA, COLON, SEMICOLON, ARROW, BECOMES}
 use Rattle.words.specs.Token.{Token, name, integer, literal, once, chain, unit, fixed, foreign}
-use Rattle.lexis.specs.Byte.{classOf}
-use Rattle.lexis.specs.Blank.{skipFrom}
-use Rattle.lexis.specs.Run.{runLength, allDigits, singles}
-use Rattle.lexis.specs.Token.{mark_of, lexemeOf, scanOf}
+use Rattle.lexis.specs.Byte.{class_of}
+use Rattle.lexis.specs.Blank.{skip_from}
+use Rattle.lexis.specs.Run.{run_length, all_digits, singles}
+use Rattle.lexis.specs.Token.{mark_of, lexeme_of, scan_of}
 use Rattle.lexis.specs.declared.token.Kind.{Kind}
 use Rattle.lexis.specs.declared.token.Kind.TheVariants.{Word, Integer, Open, Close, Comma, Colon, Semicolon, Arrow, Becomes}
 use Rattle.lexis.specs.declared.token.Scan.{Scan}
@@ -44,15 +44,15 @@ kind_of Becomes run = 116
 abbrev pub finish : List ℕ → Look
 finish text = record { kind = 117; start = length text; end = length text }
 
-abbrev pub lookFrom : List ℕ → ℕ → Scan → Look
-lookFrom text at (scanned kind start length) =
+abbrev pub look_from : List ℕ → ℕ → Scan → Look
+look_from text at (scanned kind start length) =
     record { kind = kind_of kind (part text (at + start) (at + start + length)); start = at + start; end = at + start + length }
-lookFrom text at End = finish text
-lookFrom text at (Refused place) = finish text
+look_from text at End = finish text
+look_from text at (Refused place) = finish text
 
 -- the token from place at on
 unfoldable pub look_of : List ℕ → ℕ → Look
-look_of text at = lookFrom text at (scanOf (drop at text))
+look_of text at = look_from text at (scan_of (drop at text))
 
 -- THE TOKEN OF A NUMBER
 
@@ -70,21 +70,21 @@ kinds run =
     foreigns 76 (name (lower run) ∷ integer (value_of run) ∷
     fixed OPEN ∷ fixed CLOSE ∷ fixed COMMA ∷ fixed COLON ∷ fixed SEMICOLON ∷ fixed ARROW ∷ fixed BECOMES ∷ [])
 
-unfoldable pub tokenOfKind : List ℕ → ℕ → Token
-tokenOfKind run kind = get_or (kinds run) kind foreign
+unfoldable pub token_of_kind : List ℕ → ℕ → Token
+token_of_kind run kind = get_or (kinds run) kind foreign
 
-abbrev pub tokenOfLook : List ℕ → Look → Token
-tokenOfLook text l = tokenOfKind (part text l.start l.end) l.kind
+abbrev pub token_of_look : List ℕ → Look → Token
+token_of_look text l = token_of_kind (part text l.start l.end) l.kind
 
 -- what a number says that is one of several: 16 and 17; 18 to 21; 22 and 23; 24 to 31
-abbrev pub onceOf : ℕ → Once
-onceOf kind = get_or (NAND ∷ []) (kind - 16) NOR
+abbrev pub once_of : ℕ → Once
+once_of kind = get_or (NAND ∷ []) (kind - 16) NOR
 
-abbrev pub chainOf : ℕ → Chain
-chainOf kind = get_or (AND ∷ OR ∷ XOR ∷ []) (kind - 18) XNOR
+abbrev pub chain_of : ℕ → Chain
+chain_of kind = get_or (AND ∷ OR ∷ XOR ∷ []) (kind - 18) XNOR
 
-abbrev pub literalOf : ℕ → Bool
-literalOf kind = get_or (true ∷ []) (kind - 22) false
+abbrev pub literal_of : ℕ → Bool
+literal_of kind = get_or (true ∷ []) (kind - 22) false
 
 abbrev pub unit_of : ℕ → TimeUnit
 unit_of kind = get_or (Fs ∷ Ps ∷ Ns ∷ Us ∷ Ms ∷ Sec ∷ Min ∷ []) (kind - 24) Hr
@@ -94,24 +94,24 @@ unit_of kind = get_or (Fs ∷ Ps ∷ Ns ∷ Us ∷ Ms ∷ Sec ∷ Min ∷ []) (k
 abbrev assigns : List ℕ
 assigns = bytes "Q <= -- next\n transport"
 
-a-name : look_of assigns 0 ≡ record { kind = 108; start = 0; end = 1 }
-unfolding classOf skipFrom runLength allDigits singles mark_of lexemeOf scanOf subset others vocabulary rowFrom row_of same_list look_of
-a-name = refl
+a_name_lem : look_of assigns 0 ≡ record { kind = 108; start = 0; end = 1 }
+unfolding class_of skip_from run_length all_digits singles mark_of lexeme_of scan_of subset others vocabulary row_from row_of same_list look_of
+a_name_lem = refl
 
-in-lower-case : tokenOfLook assigns (look_of assigns 0) ≡ name (bytes "q")
-unfolding classOf skipFrom runLength allDigits singles mark_of lexemeOf scanOf subset others vocabulary rowFrom row_of same_list look_of tokenOfKind
-in-lower-case = refl
+in_lower_case : token_of_look assigns (look_of assigns 0) ≡ name (bytes "q")
+unfolding class_of skip_from run_length all_digits singles mark_of lexeme_of scan_of subset others vocabulary row_from row_of same_list look_of token_of_kind
+in_lower_case = refl
 
 a_word : look_of assigns 4 ≡ record { kind = 9; start = 14; end = 23 }
-unfolding classOf skipFrom runLength allDigits singles mark_of lexemeOf scanOf subset others vocabulary rowFrom row_of same_list look_of
+unfolding class_of skip_from run_length all_digits singles mark_of lexeme_of scan_of subset others vocabulary row_from row_of same_list look_of
 a_word = refl
 
-at-the-end : look_of assigns 23 ≡ record { kind = 117; start = 23; end = 23 }
-unfolding classOf skipFrom runLength allDigits singles mark_of lexemeOf scanOf subset others vocabulary rowFrom row_of same_list look_of
-at-the-end = refl
+at_the_end : look_of assigns 23 ≡ record { kind = 117; start = 23; end = 23 }
+unfolding class_of skip_from run_length all_digits singles mark_of lexeme_of scan_of subset others vocabulary row_from row_of same_list look_of
+at_the_end = refl
 
-a_unit : unit_of 26 ≡ Ns
-a_unit = refl
+a_unit_lem : unit_of 26 ≡ Ns
+a_unit_lem = refl
 
-a-chain : chainOf 20 ≡ XOR
-a-chain = refl
+a_chain : chain_of 20 ≡ XOR
+a_chain = refl

@@ -7,12 +7,12 @@ use native.Mathlib.Omega.{arith}
 use borrow.Author.Rules.{rules}
 use lib.ListN.{length}
 use Rattle.cells.specs.Cells.{FitFor}
-use Rattle.machine.specs.Inside.Steps.{signalsOf}
+use Rattle.machine.specs.Inside.Steps.{signals_of}
 use Rattle.player.proofs.go_on.Statement.{statement}
 use Rattle.player.proofs.go_on.Tie as tie
 
 abbrev invariant-loop : tie.invariant-loop
-invariant-loop cells₀ table plan relays stop out₀ first count₀ turns₀ cells out count turns = FitFor (signalsOf table) cells × (length out ≡ 36864) × (count ≤ 36864)
+invariant-loop cells₀ table plan relays stop out₀ first count₀ turns₀ cells out count turns = FitFor (signals_of table) cells × (length out ≡ 36864) × (count ≤ 36864)
 
 abbrev decreases-loop : tie.decreases-loop
 decreases-loop cells₀ table plan relays stop out₀ first count₀ turns₀ cells out count turns = turns

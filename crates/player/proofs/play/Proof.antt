@@ -2,9 +2,9 @@
 -- Assumes nothing.
 use borrow.Author.Rules.{rules}
 use native.Mathlib.Omega.{arith}
-use Rattle.machine.proofs.Running.{planned-empty}
+use Rattle.machine.proofs.Running.{planned_empty}
 use Rattle.machine.proofs.Relaying.{unrelayed}
-use Rattle.laws.proofs.Lists.{zero-at}
+use Rattle.laws.proofs.Lists.{zero_at}
 use Rattle.player.proofs.play.Statement.{statement}
 use Rattle.player.proofs.play.Tie as tie
 
@@ -15,13 +15,13 @@ list-relays-requires : tie.Need-list-relays-requires
 list-relays-requires c κs = (c.before.before.requires.0, unrelayed c.before.before.args.table.now)
 
 make-requires : tie.Need-make-requires
-make-requires c κs = (c.before.before.before.before.requires.0, (omega arith, zero-at 16384))
+make-requires c κs = (c.before.before.before.before.requires.0, (omega arith, zero_at 16384))
 
 slice-aggregate-play-planned : tie.Need-slice-aggregate-play-planned
 slice-aggregate-play-planned c = search rules
 
 play-planned-requires : tie.Need-play-planned-requires
-play-planned-requires c κs = (c.before.before.before.before.before.before.before.before.before.requires.0, (c.before.before.before.before.before.before.before.before.before.requires.1, (planned-empty c.before.before.before.before.before.before.before.before.before.args.table.now, c.before.before.before.before.before.before.list-relays.ensures)))
+play-planned-requires c κs = (c.before.before.before.before.before.before.before.before.before.requires.0, (c.before.before.before.before.before.before.before.before.before.requires.1, (planned_empty c.before.before.before.before.before.before.before.before.before.args.table.now, c.before.before.before.before.before.before.list-relays.ensures)))
 
 slice-aggregate-play-planned-2 : tie.Need-slice-aggregate-play-planned-2
 slice-aggregate-play-planned-2 c = search rules

@@ -1,7 +1,7 @@
 -- `program::stop_words` meets its contract: no stop that words say is too late.
 -- Assumes nothing.
 use borrow.Author.Rules.{rules}
-use Rattle.program.proofs.Stops.{said-in-time}
+use Rattle.program.proofs.Stops.{said_in_time}
 use Rattle.program.proofs.stop_words.Statement.{statement}
 use Rattle.program.proofs.stop_words.Tie as tie
 
@@ -39,7 +39,7 @@ stop-of-requires : tie.Need-stop-of-requires
 stop-of-requires c κs = search rules
 
 returns-2 : tie.Need-returns-2
-returns-2 c = said-in-time _ _ _ c.stop-of.ensures
+returns-2 c = said_in_time _ _ _ c.stop-of.ensures
 
 pub stop-words-spec : {M : Type 1} → statement M
 stop-words-spec =

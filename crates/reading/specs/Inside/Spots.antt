@@ -3,7 +3,7 @@
 use Rattle.std.specs.Prelude.{ℕ, ◌<◌, ◌≡◌, Bool, false, ◌||◌, List, map, eqb, length, get_or, drop}
 use Rattle.laws.specs.Pick.{pick}
 use Rattle.lexis.specs.Token.{Placed}
-use Rattle.lexis.proofs.Scans.{tokensAt}
+use Rattle.lexis.proofs.Scans.{tokens_at}
 use Rattle.syntax.specs.Tree.{Design}
 use Rattle.syntax.specs.Sentence.{Verdict, accepted, refused3, refused4}
 use Rattle.syntax.proofs.Machine.{Values}
@@ -17,21 +17,21 @@ use Rattle.look.specs.Inside.Looks.{look_of}
 use Rattle.ledger.specs.Inside.Standing.{Keeps}
 use Rattle.reading.specs.declared.Spot.{Spot}
 
-abbrev pub tokensFrom : List ℕ → ℕ → List Placed
-tokensFrom s at = tokensAt at (drop at s)
+abbrev pub tokens_from : List ℕ → ℕ → List Placed
+tokens_from s at = tokens_at at (drop at s)
 
-abbrev pub startsFrom : List ℕ → ℕ → List ℕ
-startsFrom s at = map (λ p. p.start) (tokensFrom s at)
+abbrev pub starts_from : List ℕ → ℕ → List ℕ
+starts_from s at = map (λ p. p.start) (tokens_from s at)
 
 -- a verdict with the place of its token
-abbrev pub placedVerdict : ℕ → List ℕ → Verdict Design → Verdict Design
-placedVerdict e ps (accepted d) = accepted d
-placedVerdict e ps (refused3 k) = refused3 (get_or ps k e)
-placedVerdict e ps (refused4 k) = refused4 (get_or ps k e)
+abbrev pub placed_verdict : ℕ → List ℕ → Verdict Design → Verdict Design
+placed_verdict e ps (accepted d) = accepted d
+placed_verdict e ps (refused3 k) = refused3 (get_or ps k e)
+placed_verdict e ps (refused4 k) = refused4 (get_or ps k e)
 
 -- the machine's verdict on the tokens from place at on
 unfoldable pub machine : List ℕ → ℕ → (ss : List Symbol) → (Values Value ss → Design) → Verdict Design
-machine s at ss k = placedVerdict (length s) (startsFrom s at) (run (map (λ p. p.token) (tokensFrom s at)) ss k)
+machine s at ss k = placed_verdict (length s) (starts_from s at) (run (map (λ p. p.token) (tokens_from s at)) ss k)
 
 abbrev pub denied : ℕ → ℕ → Verdict Design
 denied number place = pick (eqb number 4) (refused4 place) (refused3 place)
@@ -42,11 +42,11 @@ verdict s p ss k = pick (eqb p.number 0) (machine s p.at ss k) (denied p.number 
 
 -- the judge's answer, where j is what it said of the tokens before place at
 unfoldable pub judgement : List ℕ → ℕ → Judgement → List Role → Judgement
-judgement s at j rs = onward j (λ y. judged y rs (startsFrom s at))
+judgement s at j rs = onward j (λ y. judged y rs (starts_from s at))
 
 -- what is written of the table, where y is what the tokens so far say
 abbrev pub drafted : State → List ℕ → ℕ → Draft
-drafted y words next = record { words = words; next = next; names = y.signalNames; processes = y.processes }
+drafted y words next = record { words = words; next = next; names = y.signal_names; processes = y.processes }
 
 -- between two spots the judge met the tokens in these roles, the ledger kept what it says, and the table's words, v before and v' after,
 -- got what is to be written where nothing is refused; so many labels are not yet opened
@@ -71,19 +71,19 @@ unfit t n = record { number = 3; at = t.start; next = n }
 abbrev pub deep : Look → ℕ → Spot
 deep t n = record { number = 4; at = t.start; next = n }
 
-abbrev pub wordFrom : Look → Spot → ℕ → Spot
-wordFrom t p kind = pick (eqb t.kind kind) (past t p.next) (unfit t p.next)
+abbrev pub word_from : Look → Spot → ℕ → Spot
+word_from t p kind = pick (eqb t.kind kind) (past t p.next) (unfit t p.next)
 
 unfoldable pub word_of : List ℕ → Spot → ℕ → Spot
-word_of s p kind = pick (eqb p.number 0) (wordFrom (look_of s p.at) p kind) p
+word_of s p kind = pick (eqb p.number 0) (word_from (look_of s p.at) p kind) p
 
 -- something was read, or refused
 pub record Forward (p q : Spot) : Type 0 where
   pub more : q.number ≡ 0 → p.at < q.at
 
 -- `end` `if` `;`
-abbrev pub endIfOf : List ℕ → Spot → Spot
-endIfOf s p = word_of s (word_of s (word_of s p 2) 11) 114
+abbrev pub end_if_of : List ℕ → Spot → Spot
+end_if_of s p = word_of s (word_of s (word_of s p 2) 11) 114
 
 -- a statement begins with a name, `if` or `null`
 abbrev pub starter : ℕ → Bool

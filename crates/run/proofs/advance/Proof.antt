@@ -2,7 +2,7 @@
 use native.Mathlib.Omega.{arith}
 use borrow.Author.Rules.{rules}
 use borrow.Author.Tests.{not-true, not-false}
-use Rattle.layout.proofs.Tables.{decodeTable}
+use Rattle.layout.proofs.Tables.{decode_table}
 use Rattle.machine.proofs.Fetching.{held, fits}
 use Rattle.run.proofs.Answering.{short-table, short-session, short-out, long-enough, own-fit, advances-short, advances-late, advances-unfit, advances-unfit-session, advances-runs}
 use Rattle.run.proofs.advance.Statement.{statement}
@@ -33,10 +33,10 @@ same_length : tie.Need-same-length
 same_length c = search rules
 
 returns-6 : tie.Need-returns-6
-returns-6 c = advances-unfit-session c.before.before.before.before.before.before.before.before.before.before.before.before.args.table.now c.before.before.before.before.before.before.before.before.before.before.before.before.args.words.now c.before.before.before.before.before.before.before.before.before.before.before.before.args.out.now c.before.before.before.before.before.before.before.before.before.before.before.before.args.stop (long-enough c.before.before.before.before.before.before.before.before.before.before.before.before.args.table.now c.before.before.before.before.before.before.before.before.before.before.before.before.args.words.now c.before.before.before.before.before.before.before.before.before.before.before.before.args.out.now c.before.before.before.before.before.before.before.before.if1.false c.before.before.before.before.before.before.before.if2.false c.before.before.before.before.before.before.if3.false) (omega (arith, c.before.before.before.before.before.if4.false)) (own-fit c.before.before.before.before.before.before.before.before.before.before.before.before.args.table.now (c.before.before.before.before.fit-table.ensures.holds (not-false _ c.before.before.before.if5.false))) ((c.before.fit-session.ensures (decodeTable c.before.before.before.before.before.before.before.before.before.before.before.before.args.table.now) (held c.before.before.before.before.before.before.before.before.before.before.before.before.args.table.now (c.before.before.before.before.fit-table.ensures.holds (not-false _ c.before.before.before.if5.false))) (fits c.before.before.before.before.before.before.before.before.before.before.before.before.args.table.now (c.before.before.before.before.fit-table.ensures.holds (not-false _ c.before.before.before.if5.false)))).fails (not-true _ c.if6.true))
+returns-6 c = advances-unfit-session c.before.before.before.before.before.before.before.before.before.before.before.before.args.table.now c.before.before.before.before.before.before.before.before.before.before.before.before.args.words.now c.before.before.before.before.before.before.before.before.before.before.before.before.args.out.now c.before.before.before.before.before.before.before.before.before.before.before.before.args.stop (long-enough c.before.before.before.before.before.before.before.before.before.before.before.before.args.table.now c.before.before.before.before.before.before.before.before.before.before.before.before.args.words.now c.before.before.before.before.before.before.before.before.before.before.before.before.args.out.now c.before.before.before.before.before.before.before.before.if1.false c.before.before.before.before.before.before.before.if2.false c.before.before.before.before.before.before.if3.false) (omega (arith, c.before.before.before.before.before.if4.false)) (own-fit c.before.before.before.before.before.before.before.before.before.before.before.before.args.table.now (c.before.before.before.before.fit-table.ensures.holds (not-false _ c.before.before.before.if5.false))) ((c.before.fit-session.ensures (decode_table c.before.before.before.before.before.before.before.before.before.before.before.before.args.table.now) (held c.before.before.before.before.before.before.before.before.before.before.before.before.args.table.now (c.before.before.before.before.fit-table.ensures.holds (not-false _ c.before.before.before.if5.false))) (fits c.before.before.before.before.before.before.before.before.before.before.before.before.args.table.now (c.before.before.before.before.fit-table.ensures.holds (not-false _ c.before.before.before.if5.false)))).fails (not-true _ c.if6.true))
 
 advance-fit-requires : tie.Need-advance-fit-requires
-advance-fit-requires c κs = ((c.before.before.before.before.before.before.fit-table.ensures.holds (not-false _ c.before.before.before.before.before.if5.false)), ((c.before.before.before.fit-session.ensures (decodeTable c.before.before.before.before.before.before.before.before.before.before.before.before.before.before.args.table.now) (held c.before.before.before.before.before.before.before.before.before.before.before.before.before.before.args.table.now (c.before.before.before.before.before.before.fit-table.ensures.holds (not-false _ c.before.before.before.before.before.if5.false))) (fits c.before.before.before.before.before.before.before.before.before.before.before.before.before.before.args.table.now (c.before.before.before.before.before.before.fit-table.ensures.holds (not-false _ c.before.before.before.before.before.if5.false)))).holds (not-false _ c.before.before.if6.false), ((omega (arith, c.before.before.before.before.before.before.before.if4.false)), c.before.before.before.before.before.before.before.before.if3.false)))
+advance-fit-requires c κs = ((c.before.before.before.before.before.before.fit-table.ensures.holds (not-false _ c.before.before.before.before.before.if5.false)), ((c.before.before.before.fit-session.ensures (decode_table c.before.before.before.before.before.before.before.before.before.before.before.before.before.before.args.table.now) (held c.before.before.before.before.before.before.before.before.before.before.before.before.before.before.args.table.now (c.before.before.before.before.before.before.fit-table.ensures.holds (not-false _ c.before.before.before.before.before.if5.false))) (fits c.before.before.before.before.before.before.before.before.before.before.before.before.before.before.args.table.now (c.before.before.before.before.before.before.fit-table.ensures.holds (not-false _ c.before.before.before.before.before.if5.false)))).holds (not-false _ c.before.before.if6.false), ((omega (arith, c.before.before.before.before.before.before.before.if4.false)), c.before.before.before.before.before.before.before.before.if3.false)))
 
 same-length-2 : tie.Need-same-length-2
 same-length-2 c = search rules
@@ -45,7 +45,7 @@ same-length-3 : tie.Need-same-length-3
 same-length-3 c = search rules
 
 returns-7 : tie.Need-returns-7
-returns-7 c = advances-runs c.before.before.before.before.before.before.before.before.before.before.before.before.before.before.before.before.before.before.before.args.table.now c.before.before.before.before.before.before.before.before.before.before.before.before.before.before.before.before.before.before.before.args.words.now c.before.before.before.before.before.before.before.before.before.before.before.before.before.before.before.before.before.before.before.args.out.now c.before.before.before.before.before.before.before.before.before.before.before.before.before.before.before.before.before.before.before.args.stop _ _ _ (long-enough c.before.before.before.before.before.before.before.before.before.before.before.before.before.before.before.before.before.before.before.args.table.now c.before.before.before.before.before.before.before.before.before.before.before.before.before.before.before.before.before.before.before.args.words.now c.before.before.before.before.before.before.before.before.before.before.before.before.before.before.before.before.before.before.before.args.out.now c.before.before.before.before.before.before.before.before.before.before.before.before.before.before.before.if1.false c.before.before.before.before.before.before.before.before.before.before.before.before.before.before.if2.false c.before.before.before.before.before.before.before.before.before.before.before.before.before.if3.false) (omega (arith, c.before.before.before.before.before.before.before.before.before.before.before.before.if4.false)) (own-fit c.before.before.before.before.before.before.before.before.before.before.before.before.before.before.before.before.before.before.before.args.table.now (c.before.before.before.before.before.before.before.before.before.before.before.fit-table.ensures.holds (not-false _ c.before.before.before.before.before.before.before.before.before.before.if5.false))) ((c.before.before.before.before.before.before.before.before.fit-session.ensures (decodeTable c.before.before.before.before.before.before.before.before.before.before.before.before.before.before.before.before.before.before.before.args.table.now) (held c.before.before.before.before.before.before.before.before.before.before.before.before.before.before.before.before.before.before.before.args.table.now (c.before.before.before.before.before.before.before.before.before.before.before.fit-table.ensures.holds (not-false _ c.before.before.before.before.before.before.before.before.before.before.if5.false))) (fits c.before.before.before.before.before.before.before.before.before.before.before.before.before.before.before.before.before.before.before.args.table.now (c.before.before.before.before.before.before.before.before.before.before.before.fit-table.ensures.holds (not-false _ c.before.before.before.before.before.before.before.before.before.before.if5.false)))).holds (not-false _ c.before.before.before.before.before.before.before.if6.false)) (c.before.before.before.before.advance-fit.ensures (own-fit c.before.before.before.before.before.before.before.before.before.before.before.before.before.before.before.before.before.before.before.args.table.now (c.before.before.before.before.before.before.before.before.before.before.before.fit-table.ensures.holds (not-false _ c.before.before.before.before.before.before.before.before.before.before.if5.false))) ((c.before.before.before.before.before.before.before.before.fit-session.ensures (decodeTable c.before.before.before.before.before.before.before.before.before.before.before.before.before.before.before.before.before.before.before.args.table.now) (held c.before.before.before.before.before.before.before.before.before.before.before.before.before.before.before.before.before.before.before.args.table.now (c.before.before.before.before.before.before.before.before.before.before.before.fit-table.ensures.holds (not-false _ c.before.before.before.before.before.before.before.before.before.before.if5.false))) (fits c.before.before.before.before.before.before.before.before.before.before.before.before.before.before.before.before.before.before.before.args.table.now (c.before.before.before.before.before.before.before.before.before.before.before.fit-table.ensures.holds (not-false _ c.before.before.before.before.before.before.before.before.before.before.if5.false)))).holds (not-false _ c.before.before.before.before.before.before.before.if6.false)))
+returns-7 c = advances-runs c.before.before.before.before.before.before.before.before.before.before.before.before.before.before.before.before.before.before.before.args.table.now c.before.before.before.before.before.before.before.before.before.before.before.before.before.before.before.before.before.before.before.args.words.now c.before.before.before.before.before.before.before.before.before.before.before.before.before.before.before.before.before.before.before.args.out.now c.before.before.before.before.before.before.before.before.before.before.before.before.before.before.before.before.before.before.before.args.stop _ _ _ (long-enough c.before.before.before.before.before.before.before.before.before.before.before.before.before.before.before.before.before.before.before.args.table.now c.before.before.before.before.before.before.before.before.before.before.before.before.before.before.before.before.before.before.before.args.words.now c.before.before.before.before.before.before.before.before.before.before.before.before.before.before.before.before.before.before.before.args.out.now c.before.before.before.before.before.before.before.before.before.before.before.before.before.before.before.if1.false c.before.before.before.before.before.before.before.before.before.before.before.before.before.before.if2.false c.before.before.before.before.before.before.before.before.before.before.before.before.before.if3.false) (omega (arith, c.before.before.before.before.before.before.before.before.before.before.before.before.if4.false)) (own-fit c.before.before.before.before.before.before.before.before.before.before.before.before.before.before.before.before.before.before.before.args.table.now (c.before.before.before.before.before.before.before.before.before.before.before.fit-table.ensures.holds (not-false _ c.before.before.before.before.before.before.before.before.before.before.if5.false))) ((c.before.before.before.before.before.before.before.before.fit-session.ensures (decode_table c.before.before.before.before.before.before.before.before.before.before.before.before.before.before.before.before.before.before.before.args.table.now) (held c.before.before.before.before.before.before.before.before.before.before.before.before.before.before.before.before.before.before.before.args.table.now (c.before.before.before.before.before.before.before.before.before.before.before.fit-table.ensures.holds (not-false _ c.before.before.before.before.before.before.before.before.before.before.if5.false))) (fits c.before.before.before.before.before.before.before.before.before.before.before.before.before.before.before.before.before.before.before.args.table.now (c.before.before.before.before.before.before.before.before.before.before.before.fit-table.ensures.holds (not-false _ c.before.before.before.before.before.before.before.before.before.before.if5.false)))).holds (not-false _ c.before.before.before.before.before.before.before.if6.false)) (c.before.before.before.before.advance-fit.ensures (own-fit c.before.before.before.before.before.before.before.before.before.before.before.before.before.before.before.before.before.before.before.args.table.now (c.before.before.before.before.before.before.before.before.before.before.before.fit-table.ensures.holds (not-false _ c.before.before.before.before.before.before.before.before.before.before.if5.false))) ((c.before.before.before.before.before.before.before.before.fit-session.ensures (decode_table c.before.before.before.before.before.before.before.before.before.before.before.before.before.before.before.before.before.before.before.args.table.now) (held c.before.before.before.before.before.before.before.before.before.before.before.before.before.before.before.before.before.before.before.args.table.now (c.before.before.before.before.before.before.before.before.before.before.before.fit-table.ensures.holds (not-false _ c.before.before.before.before.before.before.before.before.before.before.if5.false))) (fits c.before.before.before.before.before.before.before.before.before.before.before.before.before.before.before.before.before.before.before.args.table.now (c.before.before.before.before.before.before.before.before.before.before.before.fit-table.ensures.holds (not-false _ c.before.before.before.before.before.before.before.before.before.before.if5.false)))).holds (not-false _ c.before.before.before.before.before.before.before.if6.false)))
 
 pub advance-spec : {M : Type 1} → statement M
 advance-spec =

@@ -4,7 +4,7 @@ use mathlib.Core.Path.{◌≡◌, refl, subst}
 use native.Mathlib.Omega.{arith}
 use borrow.Author.Rules.{rules}
 use Rattle.run.specs.Inside.Copies.{Loaded}
-use Rattle.run.proofs.Copying.{loaded-none, loaded-more}
+use Rattle.run.proofs.Copying.{loaded_none, loaded_more}
 use Rattle.run.proofs.load.Statement.{statement}
 use Rattle.run.proofs.load.Tie as tie
 
@@ -15,7 +15,7 @@ abbrev decreases-loop : tie.decreases-loop
 decreases-loop words cells₀ j₀ cells j = 1152 - j
 
 loop-holds : tie.Need-loop-init invariant-loop decreases-loop
-loop-holds c = (omega arith, loaded-none c.args.words.now 1152 refl)
+loop-holds c = (omega arith, loaded_none c.args.words.now 1152 refl)
 
 add_at : tie.Need-overflow-add-at invariant-loop decreases-loop
 add_at c = search rules
@@ -39,7 +39,7 @@ loop-less : tie.Need-loop-smaller invariant-loop decreases-loop
 loop-less c = search rules
 
 loop-again : tie.Need-loop-preserved invariant-loop decreases-loop
-loop-again c = (omega arith, loaded-more c.before.before.before.args.words.now c.before.before.loop.cells c.before.before.loop.j c.before.loop-test.true c.before.before.loop.invariant.1)
+loop-again c = (omega arith, loaded_more c.before.before.before.args.words.now c.before.before.loop.cells c.before.before.loop.j c.before.loop-test.true c.before.before.loop.invariant.1)
 
 returns : tie.Need-returns invariant-loop decreases-loop
 returns c =

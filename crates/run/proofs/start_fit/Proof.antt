@@ -4,9 +4,9 @@ use mathlib.Core.List.{[]}
 use native.Mathlib.Omega.{arith}
 use borrow.Author.Rules.{rules}
 use Rattle.machine.proofs.Fetching.{held}
-use Rattle.machine.proofs.Running.{planned-empty}
+use Rattle.machine.proofs.Running.{planned_empty}
 use Rattle.machine.proofs.Relaying.{unrelayed}
-use Rattle.run.proofs.Giving.{moved-long, gives_moved, gives-refused, gives-quiet, gives-stop, for-table}
+use Rattle.run.proofs.Giving.{moved-long, gives_moved, gives-refused, gives-quiet, gives-stop, for_table}
 use Rattle.run.proofs.start_fit.Statement.{statement}
 use Rattle.run.proofs.start_fit.Tie as tie
 
@@ -14,7 +14,7 @@ slice-aggregate-begin : tie.Need-slice-aggregate-begin
 slice-aggregate-begin c = search rules
 
 begin-requires : tie.Need-begin-requires
-begin-requires c κs = (c.before.before.before.before.before.before.before.requires.0, (c.before.before.before.before.before.before.before.requires.1.1, (planned-empty c.before.before.before.before.before.before.before.args.table.now, unrelayed c.before.before.before.before.before.before.before.args.table.now)))
+begin-requires c κs = (c.before.before.before.before.before.before.before.requires.0, (c.before.before.before.before.before.before.before.requires.1.1, (planned_empty c.before.before.before.before.before.before.before.args.table.now, unrelayed c.before.before.before.before.before.before.before.args.table.now)))
 
 enum-known-b : tie.Need-enum-known-b
 enum-known-b c = search rules
@@ -41,25 +41,25 @@ same-length-2 : tie.Need-same-length-2
 same-length-2 c = search rules
 
 returns : tie.Need-returns
-returns c = λ f. for-table c.before.before.before.before.before.before.before.before.before.before.before.before.before.before.before.before.before.before.before.args.table.now f _ _ _ _ _ (gives_moved _ _ _ _ _ _ _ c.before.before.before.before.before.before.before.b.given.0.0 c.before.before.before.before.before.before.before.b.given.0.1.0 c.before.before.before.before.before.before.before.b.given.0.1.1.0 c.before.before.before.before.before.before.before.b.given.0.1.1.1.0 _ _ refl c.before.before.store.ensures (rw c.before.before.before.before.before.before.before.b.given.1 at c.before.before.before.before.before.before.before.before.before.before.before.begin.ensures))
+returns c = λ f. for_table c.before.before.before.before.before.before.before.before.before.before.before.before.before.before.before.before.before.before.before.args.table.now f _ _ _ _ _ (gives_moved _ _ _ _ _ _ _ c.before.before.before.before.before.before.before.b.given.0.0 c.before.before.before.before.before.before.before.b.given.0.1.0 c.before.before.before.before.before.before.before.b.given.0.1.1.0 c.before.before.before.before.before.before.before.b.given.0.1.1.1.0 _ _ refl c.before.before.store.ensures (rw c.before.before.before.before.before.before.before.b.given.1 at c.before.before.before.before.before.before.before.before.before.before.before.begin.ensures))
 
 same-length-3 : tie.Need-same-length-3
 same-length-3 c = search rules
 
 returns-2 : tie.Need-returns-2
-returns-2 c = λ f. for-table c.before.before.before.before.before.before.before.before.before.before.before.before.before.args.table.now f _ _ _ _ _ (gives-refused _ _ _ _ _ _ _ c.before.n.given.0.0 (rw c.before.n.given.1 at c.before.before.before.before.before.begin.ensures))
+returns-2 c = λ f. for_table c.before.before.before.before.before.before.before.before.before.before.before.before.before.args.table.now f _ _ _ _ _ (gives-refused _ _ _ _ _ _ _ c.before.n.given.0.0 (rw c.before.n.given.1 at c.before.before.before.before.before.begin.ensures))
 
 same-length-4 : tie.Need-same-length-4
 same-length-4 c = search rules
 
 returns-3 : tie.Need-returns-3
-returns-3 c = λ f. for-table c.before.before.before.before.before.before.before.before.before.before.before.before.args.table.now f _ _ _ _ _ (gives-quiet _ _ _ _ _ _ _ (rw c.enum_told.given.1 at c.before.before.before.before.begin.ensures))
+returns-3 c = λ f. for_table c.before.before.before.before.before.before.before.before.before.before.before.before.args.table.now f _ _ _ _ _ (gives-quiet _ _ _ _ _ _ _ (rw c.enum_told.given.1 at c.before.before.before.before.begin.ensures))
 
 same-length-5 : tie.Need-same-length-5
 same-length-5 c = search rules
 
 returns-4 : tie.Need-returns-4
-returns-4 c = λ f. for-table c.before.before.before.before.before.before.before.before.before.before.before.before.args.table.now f _ _ _ _ _ (gives-stop _ _ _ _ _ _ _ (rw c.enum-told2.given.1 at c.before.before.before.before.begin.ensures))
+returns-4 c = λ f. for_table c.before.before.before.before.before.before.before.before.before.before.before.before.args.table.now f _ _ _ _ _ (gives-stop _ _ _ _ _ _ _ (rw c.enum-told2.given.1 at c.before.before.before.before.begin.ensures))
 
 pub start-fit-spec : {M : Type 1} → statement M
 start-fit-spec =

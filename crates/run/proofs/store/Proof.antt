@@ -7,7 +7,7 @@ use native.Mathlib.Omega.{arith}
 use borrow.Author.Rules.{rules}
 use lib.ListN.{length, take, length-set}
 use lib.Seq.{sets, length-sets}
-use Rattle.run.proofs.Copying.{stored_more, stored-all}
+use Rattle.run.proofs.Copying.{stored_more, stored_all}
 use Rattle.run.proofs.store.Statement.{statement}
 use Rattle.run.proofs.store.Tie as tie
 
@@ -54,7 +54,7 @@ same_length : tie.Need-same-length invariant-loop decreases-loop
 same_length c = ap length c.before.loop.invariant.1 ∙ length-sets c.before.before.args.words.now 0 (c.before.before.args.count ∷ c.before.before.args.time ∷ take c.before.loop.j c.before.before.args.cells.now)
 
 returns : tie.Need-returns invariant-loop decreases-loop
-returns c = stored-all c.before.before.args.words.now c.before.before.args.count c.before.before.args.time c.before.loop.j c.before.before.args.cells.now c.before.loop.words (omega (arith, c.before.before.requires.1)) c.before.loop.invariant.1
+returns c = stored_all c.before.before.args.words.now c.before.before.args.count c.before.before.args.time c.before.loop.j c.before.before.args.cells.now c.before.loop.words (omega (arith, c.before.before.requires.1)) c.before.loop.invariant.1
 
 pub store_spec : {M : Type 1} → statement M
 store_spec =

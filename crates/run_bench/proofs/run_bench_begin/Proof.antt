@@ -1,6 +1,6 @@
 -- `run_bench::run_bench_begin` is safe: it runs without a plan.
 -- Assumes nothing.
-use Rattle.machine.proofs.Running.{planned-empty}
+use Rattle.machine.proofs.Running.{planned_empty}
 use Prim.Native.Nat.{◌-◌}
 use borrow.Author.Rules.{rules}
 use Rattle.run_bench.proofs.run_bench_begin.Statement.{statement}
@@ -10,7 +10,7 @@ slice-aggregate-begin : tie.Need-slice-aggregate-begin
 slice-aggregate-begin c = search rules
 
 begin-requires : tie.Need-begin-requires
-begin-requires c κs = (c.before.before.before.before.before.requires.0, (c.before.before.before.before.before.requires.1.1, (planned-empty c.before.before.before.before.before.args.table.now, c.before.before.before.before.before.requires.1.0)))
+begin-requires c κs = (c.before.before.before.before.before.requires.0, (c.before.before.before.before.before.requires.1.1, (planned_empty c.before.before.before.before.before.args.table.now, c.before.before.before.before.before.requires.1.0)))
 
 time-of-requires : tie.Need-time-of-requires
 time-of-requires c κs = search rules

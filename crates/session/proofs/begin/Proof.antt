@@ -4,12 +4,12 @@ use native.Mathlib.Omega.{arith}
 use borrow.Author.Rules.{rules}
 use Rattle.rules.specs.Calls.{start}
 use Rattle.table.specs.Table.{runners}
-use Rattle.layout.proofs.Tables.{decodeTable}
-use Rattle.machine.specs.Inside.Steps.{signalsOf}
+use Rattle.layout.proofs.Tables.{decode_table}
+use Rattle.machine.specs.Inside.Steps.{signals_of}
 use Rattle.machine.proofs.Fetching.{few-processes}
 use Rattle.writing.proofs.Buffers.{writes-length}
 use Rattle.session.proofs.Goes.{goes-refused, goes_moved}
-use Rattle.session.proofs.Beginning.{begin-full, due-after, begin-refused, begin-moved}
+use Rattle.session.proofs.Beginning.{begin_full, due-after, begin-refused, begin-moved}
 use Rattle.session.proofs.begin.Statement.{statement}
 use Rattle.session.proofs.begin.Tie as tie
 
@@ -51,10 +51,10 @@ write-start-requires c κs =
     (c.before.before.before.before.before.before.before.before.before.before.before.before.before.before.before.before.before.before.before.requires.1.0, done.1)
 
 returns : tie.Need-returns
-returns c = goes-refused (start (runners (decodeTable c.before.before.before.before.before.before.before.before.before.before.before.args.table.now)) (decodeTable c.before.before.before.before.before.before.before.before.before.before.before.args.table.now).initial) (signalsOf c.before.before.before.before.before.before.before.before.before.before.before.args.table.now) c.before.before.before.before.before.before.before.before.before.before.before.args.cells.now c.before.before.before.before.before.before.before.before.before.before.before.args.out.now 15 c.before.before.wake.new.0 (begin-full c.before.before.before.before.before.before.before.before.before.before.before.args.table.now c.before.before.before.before.before.before.before.before.before.before.before.requires.0 c.before.before.before.before.before.before.before.fresh.result c.before.before.before.before.before.before.before.fresh.ensures c.before.before.before.before.all_of.result c.before.before.before.before.all_of.ensures c.before.before.wake.new.0 (rw c.enum_told.given.1 at c.before.before.wake.ensures))
+returns c = goes-refused (start (runners (decode_table c.before.before.before.before.before.before.before.before.before.before.before.args.table.now)) (decode_table c.before.before.before.before.before.before.before.before.before.before.before.args.table.now).initial) (signals_of c.before.before.before.before.before.before.before.before.before.before.before.args.table.now) c.before.before.before.before.before.before.before.before.before.before.before.args.cells.now c.before.before.before.before.before.before.before.before.before.before.before.args.out.now 15 c.before.before.wake.new.0 (begin_full c.before.before.before.before.before.before.before.before.before.before.before.args.table.now c.before.before.before.before.before.before.before.before.before.before.before.requires.0 c.before.before.before.before.before.before.before.fresh.result c.before.before.before.before.before.before.before.fresh.ensures c.before.before.before.before.all_of.result c.before.before.before.before.all_of.ensures c.before.before.wake.new.0 (rw c.enum_told.given.1 at c.before.before.wake.ensures))
 
 returns-2 : tie.Need-returns-2
-returns-2 c = goes-refused (start (runners (decodeTable c.before.before.before.before.before.before.before.before.before.before.before.before.before.before.before.before.before.args.table.now)) (decodeTable c.before.before.before.before.before.before.before.before.before.before.before.before.before.before.before.before.before.args.table.now).initial) (signalsOf c.before.before.before.before.before.before.before.before.before.before.before.before.before.before.before.before.before.args.table.now) c.before.before.before.before.before.before.before.before.before.before.before.before.before.before.before.before.before.args.cells.now c.before.before.before.before.before.before.before.before.before.before.before.before.before.before.before.before.before.args.out.now c.before.r.given.0.0 c.before.before.before.settle.new.0 (begin-refused c.before.before.before.before.before.before.before.before.before.before.before.before.before.before.before.before.before.args.table.now c.before.before.before.before.before.before.before.before.before.before.before.before.before.before.before.before.before.requires.0 c.before.before.before.before.before.before.before.before.before.before.before.before.before.fresh.result c.before.before.before.before.before.before.before.before.before.before.before.before.before.fresh.ensures c.before.before.before.before.before.before.before.before.before.before.all_of.result c.before.before.before.before.before.before.before.before.before.before.all_of.ensures c.before.before.before.before.before.before.s.given.0.0 c.before.before.before.before.before.before.s.given.0.1.0 c.before.before.before.before.before.before.before.before.wake.new.0 (rw c.before.before.before.before.before.before.s.given.1 at c.before.before.before.before.before.before.before.before.wake.ensures) c.before.r.given.0.0 (rw c.before.r.given.1 at (c.before.before.before.settle.ensures 0 (λ e. refl))))
+returns-2 c = goes-refused (start (runners (decode_table c.before.before.before.before.before.before.before.before.before.before.before.before.before.before.before.before.before.args.table.now)) (decode_table c.before.before.before.before.before.before.before.before.before.before.before.before.before.before.before.before.before.args.table.now).initial) (signals_of c.before.before.before.before.before.before.before.before.before.before.before.before.before.before.before.before.before.args.table.now) c.before.before.before.before.before.before.before.before.before.before.before.before.before.before.before.before.before.args.cells.now c.before.before.before.before.before.before.before.before.before.before.before.before.before.before.before.before.before.args.out.now c.before.r.given.0.0 c.before.before.before.settle.new.0 (begin-refused c.before.before.before.before.before.before.before.before.before.before.before.before.before.before.before.before.before.args.table.now c.before.before.before.before.before.before.before.before.before.before.before.before.before.before.before.before.before.requires.0 c.before.before.before.before.before.before.before.before.before.before.before.before.before.fresh.result c.before.before.before.before.before.before.before.before.before.before.before.before.before.fresh.ensures c.before.before.before.before.before.before.before.before.before.before.all_of.result c.before.before.before.before.before.before.before.before.before.before.all_of.ensures c.before.before.before.before.before.before.s.given.0.0 c.before.before.before.before.before.before.s.given.0.1.0 c.before.before.before.before.before.before.before.before.wake.new.0 (rw c.before.before.before.before.before.before.s.given.1 at c.before.before.before.before.before.before.before.before.wake.ensures) c.before.r.given.0.0 (rw c.before.r.given.1 at (c.before.before.before.settle.ensures 0 (λ e. refl))))
 
 same_length : tie.Need-same-length
 same_length c = writes-length c.before.before.before.before.before.before.before.before.before.before.before.before.before.before.before.before.before.before.before.before.before.before.args.out.now 0 _ c.before.before.write-start.result c.before.before.write-start.new.0 c.before.before.write-start.ensures
@@ -62,7 +62,7 @@ same_length c = writes-length c.before.before.before.before.before.before.before
 returns-3 : tie.Need-returns-3
 returns-3 c =
     let done = rw c.before.before.before.before.before.before.c.given.1 at (c.before.before.before.before.before.before.before.before.settle.ensures 0 (λ e. refl)) in
-    goes_moved (start (runners (decodeTable c.before.before.before.before.before.before.before.before.before.before.before.before.before.before.before.before.before.before.before.before.before.before.args.table.now)) (decodeTable c.before.before.before.before.before.before.before.before.before.before.before.before.before.before.before.before.before.before.before.before.before.before.args.table.now).initial) (signalsOf c.before.before.before.before.before.before.before.before.before.before.before.before.before.before.before.before.before.before.before.before.before.before.args.table.now) c.before.before.before.before.before.before.before.before.before.before.before.before.before.before.before.before.before.before.before.before.before.before.args.cells.now c.before.before.before.before.before.before.before.before.before.before.before.before.before.before.before.before.before.before.before.before.before.before.args.out.now 0 c.before.before.before.before.before.before.c.given.0.0 c.before.before.before.before.before.before.c.given.0.1.0 c.before.before.write-start.result _ c.before.before.before.before.before.before.before.before.settle.new.0 c.before.before.write-start.new.0
+    goes_moved (start (runners (decode_table c.before.before.before.before.before.before.before.before.before.before.before.before.before.before.before.before.before.before.before.before.before.before.args.table.now)) (decode_table c.before.before.before.before.before.before.before.before.before.before.before.before.before.before.before.before.before.before.before.before.before.before.args.table.now).initial) (signals_of c.before.before.before.before.before.before.before.before.before.before.before.before.before.before.before.before.before.before.before.before.before.before.args.table.now) c.before.before.before.before.before.before.before.before.before.before.before.before.before.before.before.before.before.before.before.before.before.before.args.cells.now c.before.before.before.before.before.before.before.before.before.before.before.before.before.before.before.before.before.before.before.before.before.before.args.out.now 0 c.before.before.before.before.before.before.c.given.0.0 c.before.before.before.before.before.before.c.given.0.1.0 c.before.before.write-start.result _ c.before.before.before.before.before.before.before.before.settle.new.0 c.before.before.write-start.new.0
     (begin-moved c.before.before.before.before.before.before.before.before.before.before.before.before.before.before.before.before.before.before.before.before.before.before.args.table.now c.before.before.before.before.before.before.before.before.before.before.before.before.before.before.before.before.before.before.before.before.before.before.requires.0 c.before.before.before.before.before.before.before.before.before.before.before.before.before.before.before.before.before.before.fresh.result c.before.before.before.before.before.before.before.before.before.before.before.before.before.before.before.before.before.before.fresh.ensures c.before.before.before.before.before.before.before.before.before.before.before.before.before.before.before.all_of.result c.before.before.before.before.before.before.before.before.before.before.before.before.before.before.before.all_of.ensures c.before.before.before.before.before.before.before.before.before.before.before.s.given.0.0 c.before.before.before.before.before.before.before.before.before.before.before.s.given.0.1.0 c.before.before.before.before.before.before.before.before.before.before.before.before.before.wake.new.0 (rw c.before.before.before.before.before.before.before.before.before.before.before.s.given.1 at c.before.before.before.before.before.before.before.before.before.before.before.before.before.wake.ensures) c.before.before.before.before.before.before.c.given.0.0 c.before.before.before.before.before.before.c.given.0.1.0 c.before.before.before.before.before.before.before.before.settle.new.0 done.0) done.1 c.before.before.write-start.ensures
 
 pub begin-spec : {M : Type 1} → statement M

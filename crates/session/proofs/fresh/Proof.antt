@@ -4,7 +4,7 @@ use mathlib.Core.Path.{◌≡◌, refl, subst}
 use native.Mathlib.Omega.{arith}
 use borrow.Author.Rules.{rules}
 use Rattle.machine.proofs.Fetching.{held}
-use Rattle.session.proofs.Beginning.{Filling, filling-none, filling-more, filled-up}
+use Rattle.session.proofs.Beginning.{Filling, filling_none, filling_more, filled-up}
 use Rattle.session.proofs.fresh.Statement.{statement}
 use Rattle.session.proofs.fresh.Tie as tie
 
@@ -15,7 +15,7 @@ abbrev decreases-loop : tie.decreases-loop
 decreases-loop table cells₀ k₀ cells k = 64 - k
 
 loop-holds : tie.Need-loop-init invariant-loop decreases-loop
-loop-holds c = (omega arith, filling-none c.args.table.now 1152 refl)
+loop-holds c = (omega arith, filling_none c.args.table.now 1152 refl)
 
 add_at : tie.Need-overflow-add-at invariant-loop decreases-loop
 add_at c = search rules
@@ -39,7 +39,7 @@ loop-less : tie.Need-loop-smaller invariant-loop decreases-loop
 loop-less c = search rules
 
 loop-again : tie.Need-loop-preserved invariant-loop decreases-loop
-loop-again c = (omega arith, filling-more c.before.before.before.args.table.now c.before.before.loop.cells c.before.before.loop.k c.before.loop-test.true c.before.before.loop.invariant.1)
+loop-again c = (omega arith, filling_more c.before.before.before.args.table.now c.before.before.loop.cells c.before.before.loop.k c.before.loop-test.true c.before.before.loop.invariant.1)
 
 returns : tie.Need-returns invariant-loop decreases-loop
 returns c =

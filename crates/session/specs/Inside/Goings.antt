@@ -1,12 +1,12 @@
 -- What a start and an advance on cells answer and leave: o is what the rules say. Assumes nothing.
 use Rattle.std.specs.Prelude.{ℕ, ◌^◌, ◌<◌, ◌≡◌, true, List, [], length, replicate}
-use Rattle.rules.specs.Calls.{refused, quiet, stopReached, moved}
+use Rattle.rules.specs.Calls.{refused, quiet, stop_reached, moved}
 use Rattle.rules.specs.Calls as calls
 use Rattle.table.specs.Table.{bit}
-use Rattle.layout.proofs.Tables.{decodeTable}
+use Rattle.layout.proofs.Tables.{decode_table}
 use Rattle.cells.specs.Cells.{values, pendings, FitFor}
-use Rattle.machine.specs.Inside.Steps.{signalsOf}
-use Rattle.cycles.specs.Inside.Turns.{sessionOf}
+use Rattle.machine.specs.Inside.Steps.{signals_of}
+use Rattle.cycles.specs.Inside.Turns.{session_of}
 use Rattle.session.specs.Answers.{answer_of, outAfter}
 use Rattle.session.specs.declared.Answer.{Answer}
 
@@ -14,8 +14,8 @@ use Rattle.session.specs.declared.Answer.{Answer}
 abbrev pub CellsAfter : calls.Answer → ℕ → List ℕ → List ℕ → Type 0
 CellsAfter (refused r) n cells left = Unit {0}
 CellsAfter quiet n cells left = left ≡ cells
-CellsAfter stopReached n cells left = left ≡ cells
-CellsAfter (moved m) n cells left = (m.session ≡ sessionOf m.session.time n left) × FitFor n left
+CellsAfter stop_reached n cells left = left ≡ cells
+CellsAfter (moved m) n cells left = (m.session ≡ session_of m.session.time n left) × FitFor n left
 
 pub record GoesAs (o : calls.Answer) (n : ℕ) (cells out : List ℕ) (r : Answer) (left after : List ℕ) : Type 0 where
   pub answer : r ≡ answer_of o
@@ -24,9 +24,9 @@ pub record GoesAs (o : calls.Answer) (n : ℕ) (cells out : List ℕ) (r : Answe
 
 -- the cells of a session at the start
 pub record Fresh (tb cells : List ℕ) : Type 0 where
-  pub fit : FitFor (signalsOf tb) cells
-  pub values : values (signalsOf tb) cells ≡ (decodeTable tb).initial
-  pub pending : pendings (signalsOf tb) cells ≡ replicate (length (decodeTable tb).initial) []
+  pub fit : FitFor (signals_of tb) cells
+  pub values : values (signals_of tb) cells ≡ (decode_table tb).initial
+  pub pending : pendings (signals_of tb) cells ≡ replicate (length (decode_table tb).initial) []
 
 -- the word of the first n numbers
 pub record AllOf (n word : ℕ) : Type 0 where

@@ -14,10 +14,10 @@ use Rattle.look.specs.declared.Look.{Look}
 use Rattle.look.proofs.Looks.{seen-there}
 use Rattle.reading.specs.declared.Spot.{Spot}
 use Rattle.reading.specs.Inside.Spots.{starter}
-use Rattle.reading.specs.Inside.Reading.{Ready, Reads, someStatements}
+use Rattle.reading.specs.Inside.Reading.{Ready, Reads, some_statements}
 use Rattle.reading.proofs.Words.{worded}
 use Rattle.reading.proofs.Generic.{reads-off, ready-token, ready-pass, ready-word, ready-reads, ready_at}
-use Rattle.statements.proofs.Returns.{statement-deep, statement-if, statement-null, none-stops, statements-none, statements-more, finish-end, finish-else, starter-null, reads-less, stops_at}
+use Rattle.statements.proofs.Returns.{statement_deep, statement_if, statement_null, none-stops, statements-none, statements_more, finish_end, finish_else, starter-null, reads-less, stops_at}
 use borrow.Fn.PlainCycle.{Measures, is, falls, and}
 use borrow.Fn.Kinds.{In}
 use Rattle.statements.proofs.conditional.Reads as conditional
@@ -99,7 +99,7 @@ abbrev statements-in : ℕ → statements-lts.Claims
 statements-in t = (peek-reads.Asked, peek-reads.Learnt, starts-reads.Asked, starts-reads.Learnt, statement-below t, statement'.Post)
 
 conditional-returns : (t : ℕ) → conditional-lts.Need-returns (conditional-in t) (conditional-at t) conditional.Post
-conditional-returns t c = (statement-deep c.before.before.before.requires.1.0.inside c.before.before.before.requires.1.1 c.before.before.before.requires.1.2 c.before.before.before.requires.1.3 c.if1.true, record { more = λ z. absurd (omega (arith, z)) })
+conditional-returns t c = (statement_deep c.before.before.before.requires.1.0.inside c.before.before.before.requires.1.1 c.before.before.before.requires.1.2 c.before.before.before.requires.1.3 c.if1.true, record { more = λ z. absurd (omega (arith, z)) })
 
 conditional-count-requires : (t : ℕ) → conditional-lts.Need-count-requires (conditional-in t) (conditional-at t) conditional.Post
 conditional-count-requires t c κs = (held (c.before.before.before.before.requires.1.0.sound c.before.before.before.before.requires.1.1), omega arith)
@@ -144,7 +144,7 @@ conditional-returns-2 : (t : ℕ) → conditional-lts.Need-returns-2 (conditiona
 conditional-returns-2 t c =
     let x = seen-there c.before.before.before.before.before.before.before.before.before.before.before.before.before.before.before.before.before.before.before.before.before.before.before.before.before.before.before.before.before.before.before.before.before.before.before.before.before.requires.1.0.inside c.before.before.before.before.before.before.before.before.before.before.before.before.before.before.before.before.before.before.before.before.before.before.before.before.before.before.before.before.before.before.before.before.before.before.before.before.before.requires.1.2 (λ z. omega (arith, c.before.before.before.before.before.before.before.before.before.before.before.before.before.before.before.before.before.before.before.before.before.before.before.before.before.before.before.before.before.before.before.before.before.before.before.before.before.requires.1.3, z)) in
     let w = worded THEN c.before.before.before.before.before.before.before.before.before.before.before.before.before.before.before.before.before.before.before.before.before.before.before.before.before.before.before.before.before.expression.ensures.inside c.before.before.before.before.before.before.before.before.before.before.before.before.before.before.before.before.before.before.before.before.before.before.before.before.before.before.word.ensures in (
-      statement-if c.before.before.before.before.before.before.before.before.before.before.before.before.before.before.before.before.before.before.before.before.before.before.before.before.before.before.before.before.before.before.before.before.before.before.before.before.before.requires.1.0.inside c.before.before.before.before.before.before.before.before.before.before.before.before.before.before.before.before.before.before.before.before.before.before.before.before.before.before.before.before.before.before.before.before.before.before.before.before.before.requires.1.1 c.before.before.before.before.before.before.before.before.before.before.before.before.before.before.before.before.before.before.before.before.before.before.before.before.before.before.before.before.before.before.before.before.before.before.before.before.before.requires.1.2 c.before.before.before.before.before.before.before.before.before.before.before.before.before.before.before.before.before.before.before.before.before.before.before.before.before.before.before.before.before.before.before.before.before.before.before.before.before.requires.1.3 c.before.before.before.before.before.before.before.before.before.before.before.before.before.before.before.before.before.before.before.before.before.before.before.before.before.before.before.before.before.before.before.before.before.before.if1.false (c.before.before.before.before.before.before.before.before.before.before.before.before.before.before.before.before.before.before.before.before.before.before.before.before.before.before.before.before.before.before.before.before.count.ensures c.before.before.before.before.before.before.before.before.before.before.before.before.before.before.before.before.before.before.before.before.before.before.before.before.before.before.before.before.before.before.before.before.before.before.before.before.before.args.text.now) c.before.before.before.before.before.before.before.before.before.before.before.before.before.before.before.before.before.before.before.before.before.before.before.before.before.before.before.before.before.expression.ensures c.before.before.before.before.before.before.before.before.before.before.before.before.before.before.before.before.before.before.before.before.before.before.before.before.before.before.word.ensures c.before.before.before.before.before.before.before.before.before.before.before.before.before.before.before.before.before.before.before.before.before.before.before.before.emit.ensures.0 c.before.before.before.before.before.before.before.before.before.before.before.before.before.before.before.before.before.before.before.before.before.before.before.before.emit.ensures.1 c.before.before.before.before.before.before.before.before.before.before.before.before.before.before.before.before.before.before.before.statements.ensures.0 c.before.before.before.before.before.before.before.before.before.before.before.before.before.before.before.emit2.ensures.0 c.before.before.before.before.before.before.before.before.before.before.before.before.before.before.before.emit2.ensures.1 c.before.before.before.before.before.before.before.before.before.before.finish.ensures c.before.before.before.before.before.before.aim.ensures c.before.before.aim2.ensures,
+      statement_if c.before.before.before.before.before.before.before.before.before.before.before.before.before.before.before.before.before.before.before.before.before.before.before.before.before.before.before.before.before.before.before.before.before.before.before.before.before.requires.1.0.inside c.before.before.before.before.before.before.before.before.before.before.before.before.before.before.before.before.before.before.before.before.before.before.before.before.before.before.before.before.before.before.before.before.before.before.before.before.before.requires.1.1 c.before.before.before.before.before.before.before.before.before.before.before.before.before.before.before.before.before.before.before.before.before.before.before.before.before.before.before.before.before.before.before.before.before.before.before.before.before.requires.1.2 c.before.before.before.before.before.before.before.before.before.before.before.before.before.before.before.before.before.before.before.before.before.before.before.before.before.before.before.before.before.before.before.before.before.before.before.before.before.requires.1.3 c.before.before.before.before.before.before.before.before.before.before.before.before.before.before.before.before.before.before.before.before.before.before.before.before.before.before.before.before.before.before.before.before.before.before.if1.false (c.before.before.before.before.before.before.before.before.before.before.before.before.before.before.before.before.before.before.before.before.before.before.before.before.before.before.before.before.before.before.before.before.count.ensures c.before.before.before.before.before.before.before.before.before.before.before.before.before.before.before.before.before.before.before.before.before.before.before.before.before.before.before.before.before.before.before.before.before.before.before.before.before.args.text.now) c.before.before.before.before.before.before.before.before.before.before.before.before.before.before.before.before.before.before.before.before.before.before.before.before.before.before.before.before.before.expression.ensures c.before.before.before.before.before.before.before.before.before.before.before.before.before.before.before.before.before.before.before.before.before.before.before.before.before.before.word.ensures c.before.before.before.before.before.before.before.before.before.before.before.before.before.before.before.before.before.before.before.before.before.before.before.before.emit.ensures.0 c.before.before.before.before.before.before.before.before.before.before.before.before.before.before.before.before.before.before.before.before.before.before.before.before.emit.ensures.1 c.before.before.before.before.before.before.before.before.before.before.before.before.before.before.before.before.before.before.before.statements.ensures.0 c.before.before.before.before.before.before.before.before.before.before.before.before.before.before.before.emit2.ensures.0 c.before.before.before.before.before.before.before.before.before.before.before.before.before.before.before.emit2.ensures.1 c.before.before.before.before.before.before.before.before.before.before.finish.ensures c.before.before.before.before.before.before.aim.ensures c.before.before.aim2.ensures,
       record { more = λ z. omega (arith, x.after, x.some, c.before.before.before.before.before.before.before.before.before.before.before.before.before.before.before.before.before.before.before.before.before.before.before.before.before.before.before.before.before.expression.ensures.ahead, w.ahead, c.before.before.before.before.before.before.before.before.before.before.before.before.before.before.before.before.before.before.before.statements.ensures.0.ahead, c.before.before.before.before.before.before.before.before.before.before.finish.ensures.ahead) },
     )
 
@@ -158,7 +158,7 @@ finish-end-if-requires : (t : ℕ) → finish-lts.Need-end-if-requires (finish-i
 finish-end-if-requires t c κs = c.before.before.before.before.before.before.before.requires.1.0.inside
 
 finish-returns-2 : (t : ℕ) → finish-lts.Need-returns-2 (finish-in t) (finish-at t) finish.Post
-finish-returns-2 t c = finish-end c.before.before.before.before.before.before.before.before.requires.1.0.inside c.before.before.before.before.if1.false c.before.before.before.peek.ensures c.before.before.before.before.before.before.before.before.requires.1.1 c.before.if2.true c.end-if.ensures
+finish-returns-2 t c = finish_end c.before.before.before.before.before.before.before.before.requires.1.0.inside c.before.before.before.before.if1.false c.before.before.before.peek.ensures c.before.before.before.before.before.before.before.before.requires.1.1 c.before.if2.true c.end-if.ensures
 
 finish-statements-requires : (t : ℕ) → finish-lts.Need-statements-requires (finish-in t) (finish-at t) finish.Post
 finish-statements-requires t c κs = (omega (arith, c.before.before.before.before.before.before.before.before.before.requires.0), ready-pass c.before.before.before.before.before.before.before.before.before.requires.1.0 c.before.before.before.before.before.if1.false c.before.before.before.before.peek.ensures (λ z. omega (arith, c.before.before.if2.false, z)))
@@ -170,7 +170,7 @@ finish-same-length : (t : ℕ) → finish-lts.Need-same-length (finish-in t) (fi
 finish-same-length t c = search rules
 
 finish-returns-3 : (t : ℕ) → finish-lts.Need-returns-3 (finish-in t) (finish-at t) finish.Post
-finish-returns-3 t c = finish-else c.before.before.before.before.before.before.before.before.before.before.before.before.before.requires.1.0.inside c.before.before.before.before.before.before.before.before.before.if1.false c.before.before.before.before.before.before.before.before.peek.ensures c.before.before.before.before.before.before.before.before.before.before.before.before.before.requires.1.1 c.before.before.before.before.before.before.if2.false c.before.before.before.statements.ensures.0 c.before.before.before.statements.ensures.1 c.end-if2.ensures
+finish-returns-3 t c = finish_else c.before.before.before.before.before.before.before.before.before.before.before.before.before.requires.1.0.inside c.before.before.before.before.before.before.before.before.before.if1.false c.before.before.before.before.before.before.before.before.peek.ensures c.before.before.before.before.before.before.before.before.before.before.before.before.before.requires.1.1 c.before.before.before.before.before.before.if2.false c.before.before.before.statements.ensures.0 c.before.before.before.statements.ensures.1 c.end-if2.ensures
 
 statement-assignment-requires : (t : ℕ) → statement-lts.Need-assignment-requires (statement-in t) (statement-at t) statement'.Post
 statement-assignment-requires t c κs = (c.before.before.before.before.before.before.requires.1.0, (c.before.before.before.before.before.before.requires.1.1, c.before.before.before.before.before.before.requires.1.2, c.before.before.if1.true))
@@ -200,10 +200,10 @@ statement-returns-3 t c =
     let k : c.before.before.before.before.before.before.before.args.t.kind ≡ 14 = starter-null c.before.before.before.before.before.before.before.args.t.kind c.before.before.before.before.before.before.before.requires.1.3 c.before.before.before.if1.false c.before.if2.false in
     let x = seen-there c.before.before.before.before.before.before.before.requires.1.0.inside c.before.before.before.before.before.before.before.requires.1.2 (λ z. omega (arith, k, z)) in
     let w = worded SEMICOLON x.inside c.word.ensures in
-    (statement-null c.before.before.before.before.before.before.before.requires.1.0.inside c.before.before.before.before.before.before.before.requires.1.1 c.before.before.before.before.before.before.before.requires.1.2 k c.word.ensures, record { more = λ z. omega (arith, x.after, x.some, w.ahead) })
+    (statement_null c.before.before.before.before.before.before.before.requires.1.0.inside c.before.before.before.before.before.before.before.requires.1.1 c.before.before.before.before.before.before.before.requires.1.2 k c.word.ensures, record { more = λ z. omega (arith, x.after, x.some, w.ahead) })
 
 abbrev statements-Inv-loop : statements-lts.invariant-loop
-statements-Inv-loop text ledger₀ table₀ room p₀ ledger table p = Ready 0 text p ledger × ((q : Spot) (l v : List ℕ) → Reads someStatements text room p q ledger l table v → Reads someStatements text room p₀ q ledger₀ l table₀ v) × (length table ≡ length table₀)
+statements-Inv-loop text ledger₀ table₀ room p₀ ledger table p = Ready 0 text p ledger × ((q : Spot) (l v : List ℕ) → Reads some_statements text room p q ledger l table v → Reads some_statements text room p₀ q ledger₀ l table₀ v) × (length table ≡ length table₀)
 
 abbrev statements-μ-loop : statements-lts.decreases-loop
 statements-μ-loop text ledger₀ table₀ room p₀ ledger table p = length text - p.at + pick (eqb p.number 0) 1 0
@@ -235,7 +235,7 @@ statements-loop-less t c = reads-less c.before.before.before.before.before.befor
 statements-loop-again : (t : ℕ) → statements-lts.Need-loop-preserved (statements-in t) (statements-at t) statements.Post statements-Inv-loop statements-μ-loop
 statements-loop-again t c = (
   ready-reads c.before.before.before.before.before.before.before.before.before.before.loop.invariant.0 c.before.before.statement.ensures.0,
-  (λ q l v d. c.before.before.before.before.before.before.before.before.before.before.loop.invariant.1 q l v (statements-more c.before.before.statement.ensures.0 d)),
+  (λ q l v d. c.before.before.before.before.before.before.before.before.before.before.loop.invariant.1 q l v (statements_more c.before.before.statement.ensures.0 d)),
   search rules,
 )
 

@@ -7,7 +7,7 @@ use Rattle.words.specs.Token.{ARROW, TRANSPORT}
 use Rattle.look.proofs.Looks.{seen-there}
 use Rattle.reading.proofs.Words.{worded}
 use Rattle.reading.proofs.Generic.{span, ready-token, ready-word, ready-reads}
-use Rattle.statements.proofs.Returns.{statement-assignment}
+use Rattle.statements.proofs.Returns.{statement_assignment}
 use Rattle.statements.proofs.assignment.Statement.{statement}
 use Rattle.statements.proofs.assignment.Tie as tie
 
@@ -43,7 +43,7 @@ returns c =
     let x = seen-there c.before.before.before.before.before.before.before.before.before.before.before.before.before.before.before.before.before.before.requires.0.inside c.before.before.before.before.before.before.before.before.before.before.before.before.before.before.before.before.before.before.requires.1.1 (λ z. omega (arith, c.before.before.before.before.before.before.before.before.before.before.before.before.before.before.before.before.before.before.requires.1.2, z)) in
     let w1 = worded ARROW x.inside c.before.before.before.before.before.before.before.before.before.before.before.before.before.word.ensures in
     let w2 = worded TRANSPORT w1.inside c.before.before.before.before.before.before.before.before.before.before.before.before.word2.ensures in (
-      statement-assignment c.before.before.before.before.before.before.before.before.before.before.before.before.before.before.before.before.before.before.requires.0.inside c.before.before.before.before.before.before.before.before.before.before.before.before.before.before.before.before.before.before.requires.1.0 c.before.before.before.before.before.before.before.before.before.before.before.before.before.before.before.before.before.before.requires.1.1 c.before.before.before.before.before.before.before.before.before.before.before.before.before.before.before.before.before.before.requires.1.2 c.before.before.before.before.before.before.before.before.before.before.before.before.before.before.assign.ensures.0 c.before.before.before.before.before.before.before.before.before.before.before.before.before.before.assign.ensures.1 c.before.before.before.before.before.before.before.before.before.before.before.before.before.word.ensures c.before.before.before.before.before.before.before.before.before.before.before.before.word2.ensures c.before.before.before.before.before.before.before.before.before.expression.ensures (c.before.before.before.before.before.delay-end.ensures c.before.before.before.before.before.before.before.before.before.before.before.before.before.before.before.before.before.before.args.room _) c.before.before.emit.ensures.0 c.before.before.emit.ensures.1,
+      statement_assignment c.before.before.before.before.before.before.before.before.before.before.before.before.before.before.before.before.before.before.requires.0.inside c.before.before.before.before.before.before.before.before.before.before.before.before.before.before.before.before.before.before.requires.1.0 c.before.before.before.before.before.before.before.before.before.before.before.before.before.before.before.before.before.before.requires.1.1 c.before.before.before.before.before.before.before.before.before.before.before.before.before.before.before.before.before.before.requires.1.2 c.before.before.before.before.before.before.before.before.before.before.before.before.before.before.assign.ensures.0 c.before.before.before.before.before.before.before.before.before.before.before.before.before.before.assign.ensures.1 c.before.before.before.before.before.before.before.before.before.before.before.before.before.word.ensures c.before.before.before.before.before.before.before.before.before.before.before.before.word2.ensures c.before.before.before.before.before.before.before.before.before.expression.ensures (c.before.before.before.before.before.delay-end.ensures c.before.before.before.before.before.before.before.before.before.before.before.before.before.before.before.before.before.before.args.room _) c.before.before.emit.ensures.0 c.before.before.emit.ensures.1,
       record { more = λ z. omega (arith, x.after, x.some, w1.ahead, w2.ahead, c.before.before.before.before.before.before.before.before.before.expression.ensures.ahead, (c.before.before.before.before.before.delay-end.ensures c.before.before.before.before.before.before.before.before.before.before.before.before.before.before.before.before.before.before.args.room []).reads.ahead) },
     )
 

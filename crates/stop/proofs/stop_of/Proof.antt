@@ -3,19 +3,19 @@
 use mathlib.Core.Path.{sym, ◌∙◌}
 use borrow.Author.Rules.{rules}
 use borrow.Author.Tests.{eq-eqb, ne_eqb, not-true, not-false}
-use Rattle.stop.specs.Stop.{stopOf}
+use Rattle.stop.specs.Stop.{stop_of}
 use Rattle.stop.proofs.stop_of.Statement.{statement}
 use Rattle.stop.proofs.stop_of.Tie as tie
 
 returns : tie.Need-returns
-unfolding stopOf
+unfolding stop_of
 returns c = rw (eq-eqb _ _ c.if1.true)
 
 all-digits-requires : tie.Need-all-digits-requires
 all-digits-requires c κs = search rules
 
 returns-2 : tie.Need-returns-2
-unfolding stopOf
+unfolding stop_of
 returns-2 c = rw (ne_eqb _ _ c.before.before.if1.false, sym c.before.all_digits.ensures ∙ not-true _ c.if2.true)
 
 unit-of-requires : tie.Need-unit-of-requires
@@ -37,15 +37,15 @@ enum-told-2 : tie.Need-enum-told-2
 enum-told-2 c = search rules
 
 returns-3 : tie.Need-returns-3
-unfolding stopOf
-returns-3 c = rw (ne_eqb _ _ c.before.before.before.before.before.before.before.before.before.before.if1.false, sym c.before.before.before.before.before.before.before.before.before.all_digits.ensures ∙ not-false _ c.before.before.before.before.before.before.before.before.if2.false, sym c.before.before.before.before.before.before.before.unit-of.ensures ∙ c.before.before.before.before.before.u.given.1, sym c.before.before.before.time-of.ensures ∙ c.before.t.given.1)
+unfolding stop_of
+returns-3 c = rw (ne_eqb _ _ c.before.before.before.before.before.before.before.before.before.before.if1.false, sym c.before.before.before.before.before.before.before.before.before.all_digits.ensures ∙ not-false _ c.before.before.before.before.before.before.before.before.if2.false, sym c.before.before.before.before.before.before.before.unit-of.ensures ∙ c.before.before.before.before.before.u.given.1, sym c.before.before.before.time_of.ensures ∙ c.before.t.given.1)
 
 returns-4 : tie.Need-returns-4
-unfolding stopOf
-returns-4 c = rw (ne_eqb _ _ c.before.before.before.before.before.before.before.before.before.if1.false, sym c.before.before.before.before.before.before.before.before.all_digits.ensures ∙ not-false _ c.before.before.before.before.before.before.before.if2.false, sym c.before.before.before.before.before.before.unit-of.ensures ∙ c.before.before.before.before.u.given.1, sym c.before.before.time-of.ensures ∙ c.enum_told.given.1)
+unfolding stop_of
+returns-4 c = rw (ne_eqb _ _ c.before.before.before.before.before.before.before.before.before.if1.false, sym c.before.before.before.before.before.before.before.before.all_digits.ensures ∙ not-false _ c.before.before.before.before.before.before.before.if2.false, sym c.before.before.before.before.before.before.unit-of.ensures ∙ c.before.before.before.before.u.given.1, sym c.before.before.time_of.ensures ∙ c.enum_told.given.1)
 
 returns-5 : tie.Need-returns-5
-unfolding stopOf
+unfolding stop_of
 returns-5 c = rw (ne_eqb _ _ c.before.before.before.before.before.if1.false, sym c.before.before.before.before.all_digits.ensures ∙ not-false _ c.before.before.before.if2.false, sym c.before.before.unit-of.ensures ∙ c.enum-told2.given.1)
 
 pub stop-of-spec : {M : Type 1} → statement M

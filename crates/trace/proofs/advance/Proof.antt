@@ -2,7 +2,7 @@
 -- Assumes nothing.
 use mathlib.Core.Bool.{true≢false}
 use native.Mathlib.Omega.{arith}
-use Rattle.machine.proofs.Running.{planned-empty}
+use Rattle.machine.proofs.Running.{planned_empty}
 use Rattle.player.proofs.Moving.{moved_fit}
 use borrow.Author.Rules.{rules}
 use Rattle.trace.proofs.advance.Statement.{statement}
@@ -12,7 +12,7 @@ slice-aggregate-forward : tie.Need-slice-aggregate-forward
 slice-aggregate-forward c = search rules
 
 forward-requires : tie.Need-forward-requires
-forward-requires c κs = (search rules, (search rules, (search rules, (omega (arith, c.before.before.before.before.before.before.requires.1.1.1.0), (planned-empty c.before.before.before.before.before.before.args.table.now, c.before.before.before.before.before.before.requires.1.1.1.1.1)))))
+forward-requires c κs = (search rules, (search rules, (search rules, (omega (arith, c.before.before.before.before.before.before.requires.1.1.1.0), (planned_empty c.before.before.before.before.before.before.args.table.now, c.before.before.before.before.before.before.requires.1.1.1.1.1)))))
 
 enum-known-bytes : tie.Need-enum-known-bytes
 enum-known-bytes c = search rules

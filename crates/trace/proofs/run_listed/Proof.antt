@@ -1,6 +1,6 @@
 -- `trace::run_listed` meets its contract: a start that moved leaves cells that are fit.
 -- Assumes nothing.
-use Rattle.machine.proofs.Running.{planned-empty}
+use Rattle.machine.proofs.Running.{planned_empty}
 use Rattle.player.proofs.Moving.{moved_fit}
 use borrow.Author.Rules.{rules}
 use Rattle.trace.proofs.run_listed.Statement.{statement}
@@ -13,7 +13,7 @@ slice-aggregate-begin-2 : tie.Need-slice-aggregate-begin-2
 slice-aggregate-begin-2 c = search rules
 
 begin-requires : tie.Need-begin-requires
-begin-requires c κs = (c.before.before.before.before.before.requires.0, (search rules, (planned-empty c.before.before.before.before.before.args.table.now, c.before.before.before.before.before.requires.1.1.1.1)))
+begin-requires c κs = (c.before.before.before.before.before.requires.0, (search rules, (planned_empty c.before.before.before.before.before.args.table.now, c.before.before.before.before.before.requires.1.1.1.1)))
 
 enum-known-bytes : tie.Need-enum-known-bytes
 enum-known-bytes c = search rules

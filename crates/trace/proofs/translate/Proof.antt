@@ -1,6 +1,6 @@
 -- `trace::translate` meets its contract: the table of an accepted text is fit.
 -- Assumes nothing.
-use Rattle.demands_code.proofs.Demand3.{demand-3}
+use Rattle.demands_code.proofs.Demand3.{demand_3}
 use borrow.Author.Rules.{rules}
 use Rattle.trace.proofs.translate.Statement.{statement}
 use Rattle.trace.proofs.translate.Tie as tie
@@ -36,7 +36,7 @@ slice-aggregate-run-2 : tie.Need-slice-aggregate-run-2
 slice-aggregate-run-2 c = search rules
 
 run-requires : tie.Need-run-requires
-run-requires c κs = ((demand-3 _ _ _ (rw c.before.before.before.before.before.enum_told.given.1 at c.before.before.before.before.before.before.before.before.read.ensures)).1.fit, (search rules, (search rules, c.before.before.before.header.ensures)))
+run-requires c κs = ((demand_3 _ _ _ (rw c.before.before.before.before.before.enum_told.given.1 at c.before.before.before.before.before.before.before.before.read.ensures)).1.fit, (search rules, (search rules, c.before.before.before.header.ensures)))
 
 returns : tie.Need-returns
 returns c = search rules

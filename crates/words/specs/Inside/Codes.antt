@@ -6,21 +6,21 @@ use Rattle.laws.specs.Text.{bytes}
 use Rattle.words.specs.Vocabulary.{Row, vocabulary}
 
 -- 1 to 26 for a letter in either case, and 27 for any other byte
-unfoldable pub letterOf : ℕ → ℕ
-letterOf byte = pick (within 65 90 byte) (byte - 64) (pick (within 97 122 byte) (byte - 96) 27)
+unfoldable pub letter_of : ℕ → ℕ
+letter_of byte = pick (within 65 90 byte) (byte - 64) (pick (within 97 122 byte) (byte - 96) 27)
 
 -- the letters as digits in base 28, the first the lowest
 unfoldable pub code_of : List ℕ → ℕ
 code_of [] = 0
-code_of (byte ∷ word) = code_of word * 28 + letterOf byte
+code_of (byte ∷ word) = code_of word * 28 + letter_of byte
 
-abbrev pub rowCode : Row → ℕ
-rowCode r = code_of (bytes r.spelling)
+abbrev pub row_code : Row → ℕ
+row_code r = code_of (bytes r.spelling)
 
 unfoldable pub codes : List ℕ
-codes = map rowCode vocabulary
+codes = map row_code vocabulary
 
 -- the number of the first code that is the same, counted from k; past the last where there is none
-unfoldable pub findFrom : ℕ → ℕ → List ℕ → ℕ
-findFrom k code [] = k
-findFrom k code (c ∷ cs) = let later = findFrom (k + 1) code cs in pick (eqb c code) k later
+unfoldable pub find_from : ℕ → ℕ → List ℕ → ℕ
+find_from k code [] = k
+find_from k code (c ∷ cs) = let later = find_from (k + 1) code cs in pick (eqb c code) k later

@@ -3,7 +3,7 @@ use Prim.Native.Nat.{◌+◌, ◌-◌}
 use native.Mathlib.Omega.{arith}
 use lib.Count.{count_trailing_zeros}
 use Rattle.writing.proofs.Buffers.{writes-length}
-use Rattle.writing.proofs.Choosing.{Chosen, chosen-first, chosen-place, chosen_last, step, chosen_more}
+use Rattle.writing.proofs.Choosing.{Chosen, chosen_first, chosen-place, chosen_last, step, chosen_more}
 use Rattle.writing.proofs.chosen_lines.Statement.{statement}
 use Rattle.writing.proofs.chosen_lines.Tie as tie
 
@@ -14,7 +14,7 @@ abbrev decreases-loop : tie.decreases-loop
 decreases-loop out₀ at cells word place₀ m₀ k₀ out place m k = 64 - k
 
 loop-holds : tie.Need-loop-init invariant-loop decreases-loop
-loop-holds c = chosen-first c.before.args.word c.before.args.cells.now c.before.args.out.now c.before.args.at (omega arith)
+loop-holds c = chosen_first c.before.args.word c.before.args.cells.now c.before.args.out.now c.before.args.at (omega arith)
 
 cast-signal : tie.Need-overflow-cast-signal invariant-loop decreases-loop
 cast-signal c = omega (arith, (step c.before.before.before.args.word c.before.before.before.args.cells.now c.before.before.before.args.out.now c.before.before.before.args.at c.before.loop.out c.before.loop.place c.before.loop.m c.before.loop.k c.before.loop.invariant c.loop-test.true).inside, c.before.before.before.requires.1.long)

@@ -7,7 +7,7 @@ use Rattle.rules.specs.Dump.{all}
 use Rattle.cells.specs.Cells.{values}
 use Rattle.writing.specs.Inside.Written.{Writes}
 use Rattle.writing.proofs.Buffers.{writes-length}
-use Rattle.writing.proofs.Rows.{lines-first, lines_more, lines-place}
+use Rattle.writing.proofs.Rows.{lines_first, lines_more, lines-place}
 use Rattle.writing.proofs.lines.Statement.{statement}
 use Rattle.writing.proofs.lines.Tie as tie
 
@@ -18,7 +18,7 @@ abbrev decreases-loop : tie.decreases-loop
 decreases-loop out₀ at cells count place₀ k₀ out place k = count - k
 
 loop-holds : tie.Need-loop-init invariant-loop decreases-loop
-loop-holds c = (omega arith, lines-first c.before.args.out.now c.before.args.at c.before.args.cells.now)
+loop-holds c = (omega arith, lines_first c.before.args.out.now c.before.args.at c.before.args.cells.now)
 
 mul-value : tie.Need-overflow-mul-value invariant-loop decreases-loop
 mul-value c = omega (arith, c.before.before.before.requires.1.few, c.before.before.before.requires.1.fit.long)

@@ -3,7 +3,7 @@ use Prim.Native.Nat.{◌%◌}
 use native.Mathlib.Omega.{arith}
 use borrow.Author.Rules.{rules}
 use Rattle.writing.specs.Inside.Block.{two}
-use Rattle.writing.proofs.Digits.{split-two, length_two, writes-split}
+use Rattle.writing.proofs.Digits.{split_two, length_two, writes-split}
 use Rattle.writing.proofs.up_to_four.Statement.{statement}
 use Rattle.writing.proofs.up_to_four.Tie as tie
 
@@ -27,7 +27,7 @@ same-length-2 c = search rules
 
 returns-2 : tie.Need-returns-2
 returns-2 c = (
-  writes-split 100 two split-two c.before.before.before.before.before.before.before.before.before.before.args.out.now c.before.before.before.before.before.before.before.before.before.before.args.at c.before.before.before.before.before.before.before.before.before.before.args.n c.before.before.before.before.before.before.up-to-two2.result c.before.before.two.result c.before.before.before.before.before.before.up-to-two2.new.0 c.before.before.two.new.0 (omega arith) c.before.before.before.before.before.before.up-to-two2.ensures.0 c.before.before.two.ensures,
+  writes-split 100 two split_two c.before.before.before.before.before.before.before.before.before.before.args.out.now c.before.before.before.before.before.before.before.before.before.before.args.at c.before.before.before.before.before.before.before.before.before.before.args.n c.before.before.before.before.before.before.up-to-two2.result c.before.before.two.result c.before.before.before.before.before.before.up-to-two2.new.0 c.before.before.two.new.0 (omega arith) c.before.before.before.before.before.before.up-to-two2.ensures.0 c.before.before.two.ensures,
   omega (arith, c.before.before.before.before.before.before.up-to-two2.ensures.1, c.before.before.two.ensures.end, length_two (c.before.before.before.before.before.before.before.before.before.before.args.n % 100)),
 )
 

@@ -3,7 +3,7 @@ use Prim.Native.Nat.{◌+◌}
 use native.Mathlib.Omega.{arith}
 use borrow.Author.Rules.{rules}
 use Rattle.writing.proofs.Buffers.{writes_byte}
-use Rattle.writing.proofs.Digits.{decimal-one, decimal-two, length_two}
+use Rattle.writing.proofs.Digits.{decimal_one, decimal_two, length_two}
 use Rattle.writing.proofs.up_to_two.Statement.{statement}
 use Rattle.writing.proofs.up_to_two.Tie as tie
 
@@ -23,7 +23,7 @@ same_length : tie.Need-same-length
 same_length c = search rules
 
 returns : tie.Need-returns
-returns c = (rw (decimal-one c.before.before.args.n (omega arith)) (writes_byte c.before.before.args.out.now c.before.before.args.at (48 + c.before.before.args.n)), omega arith)
+returns c = (rw (decimal_one c.before.before.args.n (omega arith)) (writes_byte c.before.before.args.out.now c.before.before.args.at (48 + c.before.before.args.n)), omega arith)
 
 two-requires : tie.Need-two-requires
 two-requires c κs = search rules
@@ -32,7 +32,7 @@ same-length-2 : tie.Need-same-length-2
 same-length-2 c = search rules
 
 returns-2 : tie.Need-returns-2
-returns-2 c = (rw (decimal-two c.before.before.before.before.before.before.args.n (omega arith) (omega arith)) c.before.before.two.ensures, omega (arith, c.before.before.two.ensures.end, length_two c.before.before.before.before.before.before.args.n))
+returns-2 c = (rw (decimal_two c.before.before.before.before.before.before.args.n (omega arith) (omega arith)) c.before.before.two.ensures, omega (arith, c.before.before.two.ensures.end, length_two c.before.before.before.before.before.before.args.n))
 
 pub up-to-two-spec : {M : Type 1} → statement M
 up-to-two-spec =

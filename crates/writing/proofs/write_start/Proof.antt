@@ -1,9 +1,9 @@
 -- `writing::write_start` meets its contract: three texts, one behind the other. Assumes nothing.
 use native.Mathlib.Omega.{arith}
 use borrow.Author.Rules.{rules}
-use Rattle.rules.specs.Dump.{startBytes, all}
+use Rattle.rules.specs.Dump.{start_bytes, all}
 use Rattle.cells.specs.Cells.{values}
-use Rattle.writing.proofs.Buffers.{writes-both, writes-length}
+use Rattle.writing.proofs.Buffers.{writes_both, writes-length}
 use Rattle.writing.proofs.Rows.{lines-place}
 use Rattle.writing.proofs.write_start.Statement.{statement}
 use Rattle.writing.proofs.write_start.Tie as tie
@@ -27,9 +27,9 @@ same_length : tie.Need-same-length
 same_length c = search rules
 
 returns : tie.Need-returns
-unfolding startBytes
-returns c = writes-both c.before.before.before.before.before.before.before.before.before.before.before.before.before.before.before.args.out.now 0 _ _ c.before.before.before.before.before.before.before.before.before.before.before.copy.result c.before.before.copy2.result c.before.before.before.before.before.before.before.before.before.before.before.copy.new.0 c.before.before.copy2.new.0 c.before.before.before.before.before.before.before.before.before.before.before.copy.ensures
-    (writes-both c.before.before.before.before.before.before.before.before.before.before.before.copy.new.0 c.before.before.before.before.before.before.before.before.before.before.before.copy.result _ _ c.before.before.before.before.before.before.before.lines.result c.before.before.copy2.result c.before.before.before.before.before.before.before.lines.new.0 c.before.before.copy2.new.0 c.before.before.before.before.before.before.before.lines.ensures c.before.before.copy2.ensures)
+unfolding start_bytes
+returns c = writes_both c.before.before.before.before.before.before.before.before.before.before.before.before.before.before.before.args.out.now 0 _ _ c.before.before.before.before.before.before.before.before.before.before.before.copy.result c.before.before.copy2.result c.before.before.before.before.before.before.before.before.before.before.before.copy.new.0 c.before.before.copy2.new.0 c.before.before.before.before.before.before.before.before.before.before.before.copy.ensures
+    (writes_both c.before.before.before.before.before.before.before.before.before.before.before.copy.new.0 c.before.before.before.before.before.before.before.before.before.before.before.copy.result _ _ c.before.before.before.before.before.before.before.lines.result c.before.before.copy2.result c.before.before.before.before.before.before.before.lines.new.0 c.before.before.copy2.new.0 c.before.before.before.before.before.before.before.lines.ensures c.before.before.copy2.ensures)
 
 pub write-start-spec : {M : Type 1} → statement M
 write-start-spec =

@@ -2,7 +2,7 @@
 -- Assumes nothing.
 use mathlib.Core.Path.{refl}
 use borrow.Author.Rules.{rules}
-use Rattle.layout.proofs.Tables.{decodeTable}
+use Rattle.layout.proofs.Tables.{decode_table}
 use Rattle.fitness.specs.Inside.Parts.{processes, instructions}
 use Rattle.fitness.proofs.Owners.{own_alone}
 use Rattle.fitness.proofs.drivers.alone.Statement.{statement}
@@ -17,7 +17,7 @@ owners-requires c κs = (c.before.before.requires, refl)
 returns : tie.Need-returns
 returns c =
     record {
-      holds = λ z. own_alone (decodeTable c.before.before.before.before.args.words.now) (processes c.before.before.before.before.args.words.now) (instructions c.before.before.before.before.args.words.now) _ c.before.before.before.before.requires.rows (c.before.owners.ensures.holds z);
+      holds = λ z. own_alone (decode_table c.before.before.before.before.args.words.now) (processes c.before.before.before.before.args.words.now) (instructions c.before.before.before.before.args.words.now) _ c.before.before.before.before.requires.rows (c.before.owners.ensures.holds z);
       fails = λ z. c.before.owners.ensures.fails z;
     }
 

@@ -7,16 +7,16 @@ use borrow.Author.Rules.{rules}
 use native.Mathlib.Omega.{arith}
 use Rattle.laws.proofs.Deciding.{differ}
 use Rattle.table.specs.Table.{begins}
-use Rattle.layout.proofs.Tables.{decodeTable}
+use Rattle.layout.proofs.Tables.{decode_table}
 use Rattle.fitness.specs.Inside.Parts.{processes, instructions}
 use Rattle.fitness.specs.Inside.Drivers.{Owned}
-use Rattle.fitness.proofs.Reading.{begins-word, begins-next}
+use Rattle.fitness.proofs.Reading.{begins-word, begins_next}
 use Rattle.fitness.proofs.Owners.{own-none}
 use Rattle.fitness.proofs.drivers.owners.Statement.{statement}
 use Rattle.fitness.proofs.drivers.owners.Tie as tie
 
 abbrev invariant-loop : tie.invariant-loop
-invariant-loop words own₀ processes from₀ p₀ own from p = (p ≤ processes) × (from ≡ begins (decodeTable words) p) × Owned (decodeTable words) processes from own
+invariant-loop words own₀ processes from₀ p₀ own from p = (p ≤ processes) × (from ≡ begins (decode_table words) p) × Owned (decode_table words) processes from own
 
 abbrev decreases-loop : tie.decreases-loop
 decreases-loop words own₀ processes from₀ p₀ own from p = processes - p
@@ -25,22 +25,22 @@ shared-slice-read-processes : tie.Need-shared-slice-read-processes invariant-loo
 shared-slice-read-processes c = omega (arith, c.before.before.before.requires.0.few.long)
 
 cast-processes : tie.Need-overflow-cast-processes invariant-loop decreases-loop
-cast-processes c = omega (arith, c.before.before.before.requires.0.few.fewProcesses)
+cast-processes c = omega (arith, c.before.before.before.requires.0.few.few_processes)
 
 loop-holds : tie.Need-loop-init invariant-loop decreases-loop
-loop-holds c = (omega arith, refl, subst (λ own. Owned (decodeTable c.before.before.before.args.words.now) (processes c.before.before.before.args.words.now) 0 own) (sym c.before.before.before.requires.1) (own-none (decodeTable c.before.before.before.args.words.now) (processes c.before.before.before.args.words.now)))
+loop-holds c = (omega arith, refl, subst (λ own. Owned (decode_table c.before.before.before.args.words.now) (processes c.before.before.before.args.words.now) 0 own) (sym c.before.before.before.requires.1) (own-none (decode_table c.before.before.before.args.words.now) (processes c.before.before.before.args.words.now)))
 
 cast-at : tie.Need-overflow-cast-at invariant-loop decreases-loop
-cast-at c = omega (arith, c.before.before.before.before.before.requires.0.few.fewProcesses)
+cast-at c = omega (arith, c.before.before.before.before.before.requires.0.few.few_processes)
 
 add_at : tie.Need-overflow-add-at invariant-loop decreases-loop
-add_at c = omega (arith, c.before.before.before.before.before.requires.0.few.fewProcesses)
+add_at c = omega (arith, c.before.before.before.before.before.requires.0.few.few_processes)
 
 mul-end : tie.Need-overflow-mul-end invariant-loop decreases-loop
-mul-end c = omega (arith, c.before.before.before.before.before.requires.0.few.fewProcesses)
+mul-end c = omega (arith, c.before.before.before.before.before.requires.0.few.few_processes)
 
 shared-slice-read-end : tie.Need-shared-slice-read-end invariant-loop decreases-loop
-shared-slice-read-end c = omega (arith, c.before.before.before.before.before.before.requires.0.few.fewProcesses, c.before.before.before.before.before.before.requires.0.few.long)
+shared-slice-read-end c = omega (arith, c.before.before.before.before.before.before.requires.0.few.few_processes, c.before.before.before.before.before.before.requires.0.few.long)
 
 drives-requires : tie.Need-drives-requires invariant-loop decreases-loop
 drives-requires c κs = (c.before.before.before.before.before.before.before.requires.0, (c.before.before.loop-test.true, (c.before.before.before.loop.invariant.1, (sym (begins-word c.before.before.before.before.before.before.before.args.words.now c.before.before.before.loop.p c.before.before.loop-test.true), c.before.before.before.loop.invariant.2))))
@@ -52,13 +52,13 @@ returns : tie.Need-returns invariant-loop decreases-loop
 returns c = record { holds = λ z. differ (sym z); fails = λ z. c.before.before.before.drives.ensures.fails (not-true _ c.if1.true) }
 
 add-p : tie.Need-overflow-add-p invariant-loop decreases-loop
-add-p c = omega (arith, c.before.before.before.before.before.before.before.before.before.before.before.requires.0.few.fewProcesses)
+add-p c = omega (arith, c.before.before.before.before.before.before.before.before.before.before.before.requires.0.few.few_processes)
 
 loop-less : tie.Need-loop-smaller invariant-loop decreases-loop
 loop-less c = search rules
 
 loop-again : tie.Need-loop-preserved invariant-loop decreases-loop
-loop-again c = (omega arith, begins-next c.before.before.before.before.before.before.before.before.before.before.before.args.words.now c.before.before.before.before.before.before.before.loop.p c.before.before.before.before.before.before.loop-test.true, c.before.before.before.drives.ensures.holds (not-false _ c.if1.false))
+loop-again c = (omega arith, begins_next c.before.before.before.before.before.before.before.before.before.before.before.args.words.now c.before.before.before.before.before.before.before.loop.p c.before.before.before.before.before.before.loop-test.true, c.before.before.before.drives.ensures.holds (not-false _ c.if1.false))
 
 same-length-2 : tie.Need-same-length-2 invariant-loop decreases-loop
 same-length-2 c = search rules
@@ -66,9 +66,9 @@ same-length-2 c = search rules
 returns-2 : tie.Need-returns-2 invariant-loop decreases-loop
 returns-2 c =
     let q : c.before.loop.p ≡ processes c.before.before.before.before.before.args.words.now = omega arith in
-    let e : c.before.loop.from ≡ instructions c.before.before.before.before.before.args.words.now = c.before.loop.invariant.1 ∙ ap (begins (decodeTable c.before.before.before.before.before.args.words.now)) q ∙ c.before.before.before.before.before.requires.0.rows.cover in
+    let e : c.before.loop.from ≡ instructions c.before.before.before.before.before.args.words.now = c.before.loop.invariant.1 ∙ ap (begins (decode_table c.before.before.before.before.before.args.words.now)) q ∙ c.before.before.before.before.before.requires.0.rows.cover in
     record {
-      holds = λ z. subst (λ x. Owned (decodeTable c.before.before.before.before.before.args.words.now) (processes c.before.before.before.before.before.args.words.now) x c.before.loop.own_val) e c.before.loop.invariant.2;
+      holds = λ z. subst (λ x. Owned (decode_table c.before.before.before.before.before.args.words.now) (processes c.before.before.before.before.before.args.words.now) x c.before.loop.own_val) e c.before.loop.invariant.2;
       fails = λ z. differ z;
     }
 

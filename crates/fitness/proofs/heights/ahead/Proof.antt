@@ -2,15 +2,15 @@
 -- Assumes nothing.
 use borrow.Author.Tests.{leb-true, leb-false}
 use native.Mathlib.Omega.{arith}
-use Rattle.laws.proofs.Deciding.{decides-yes, decides-no}
+use Rattle.laws.proofs.Deciding.{decides_yes, decides_no}
 use Rattle.fitness.proofs.heights.ahead.Statement.{statement}
 use Rattle.fitness.proofs.heights.ahead.Tie as tie
 
 returns : tie.Need-returns
-returns c = decides-yes _ (λ h. absurd (omega arith))
+returns c = decides_yes _ (λ h. absurd (omega arith))
 
 returns-2 : tie.Need-returns-2
-returns-2 c = decides-no _ (λ f. omega (arith, f (omega arith)))
+returns-2 c = decides_no _ (λ f. omega (arith, f (omega arith)))
 
 returns-3 : tie.Need-returns-3
 returns-3 c =

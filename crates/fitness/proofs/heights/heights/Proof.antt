@@ -7,20 +7,20 @@ use borrow.Author.Tests.{not-true, not-false}
 use borrow.Author.Rules.{rules}
 use native.Mathlib.Omega.{arith}
 use Rattle.laws.proofs.Deciding.{differ}
-use Rattle.layout.proofs.Tables.{decodeTable}
+use Rattle.layout.proofs.Tables.{decode_table}
 use Rattle.fitness.proofs.Reading.{kind_at}
-use Rattle.fitness.proofs.Passes.{Done, pass-none, pass-more, pass-back, pass-broken, pass-sound, pass-end, pass-fresh, passed-not}
+use Rattle.fitness.proofs.Passes.{Done, pass-none, pass_more, pass-back, pass-broken, pass-sound, pass_end, pass-fresh, passed-not}
 use Rattle.fitness.proofs.heights.heights.Statement.{statement}
 use Rattle.fitness.proofs.heights.heights.Tie as tie
 
 abbrev invariant-loop : tie.invariant-loop
-invariant-loop words hs₀ from upto x₀ hs x = (x ≤ upto) × Done (decodeTable words).code from upto x hs
+invariant-loop words hs₀ from upto x₀ hs x = (x ≤ upto) × Done (decode_table words).code from upto x hs
 
 abbrev decreases-loop : tie.decreases-loop
 decreases-loop words hs₀ from upto x₀ hs x = upto - x
 
 loop-holds : tie.Need-loop-init invariant-loop decreases-loop
-loop-holds c = (omega arith, pass-none (decodeTable c.before.before.args.words.now).code c.before.before.args.from c.before.before.args.upto c.before.before.args.hs.now (omega arith) c.before.before.requires.1.1.1)
+loop-holds c = (omega arith, pass-none (decode_table c.before.before.args.words.now).code c.before.before.args.from c.before.before.args.upto c.before.before.args.hs.now (omega arith) c.before.before.requires.1.1.1)
 
 add-operation : tie.Need-overflow-add-operation invariant-loop decreases-loop
 add-operation c = search rules
@@ -38,7 +38,7 @@ same_length : tie.Need-same-length invariant-loop decreases-loop
 same_length c = c.before.before.before.before.loop.invariant.1.long ∙ sym c.before.before.before.before.before.before.before.requires.1.1.1.long
 
 returns : tie.Need-returns invariant-loop decreases-loop
-returns c = passed-not (decodeTable c.before.before.before.before.before.before.before.args.words.now).code c.before.before.before.before.before.before.before.args.from c.before.before.before.before.before.before.before.args.upto _ (pass-back (decodeTable c.before.before.before.before.before.before.before.args.words.now).code c.before.before.before.before.before.before.before.args.from c.before.before.before.before.before.before.before.args.upto c.before.before.before.before.loop.x c.before.before.before.before.loop.hs c.before.before.before.before.loop.invariant.1 c.before.before.before.loop-test.true _ _
+returns c = passed-not (decode_table c.before.before.before.before.before.before.before.args.words.now).code c.before.before.before.before.before.before.before.args.from c.before.before.before.before.before.before.before.args.upto _ (pass-back (decode_table c.before.before.before.before.before.before.before.args.words.now).code c.before.before.before.before.before.before.before.args.from c.before.before.before.before.before.before.before.args.upto c.before.before.before.before.loop.x c.before.before.before.before.loop.hs c.before.before.before.before.loop.invariant.1 c.before.before.before.loop-test.true _ _
     (kind_at c.before.before.before.before.before.before.before.args.words.now c.before.before.before.before.before.before.before.requires.0 c.before.before.before.before.loop.x (omega arith))
     (c.before.ahead.ensures.fails (not-true _ c.if1.true)))
 
@@ -51,7 +51,7 @@ same-length-2 : tie.Need-same-length-2 invariant-loop decreases-loop
 same-length-2 c = c.before.before.before.step.ensures.long ∙ c.before.before.before.before.before.before.before.before.before.loop.invariant.1.long ∙ sym c.before.before.before.before.before.before.before.before.before.before.before.before.requires.1.1.1.long
 
 returns-2 : tie.Need-returns-2 invariant-loop decreases-loop
-returns-2 c = passed-not (decodeTable c.before.before.before.before.before.before.before.before.before.before.before.before.args.words.now).code c.before.before.before.before.before.before.before.before.before.before.before.before.args.from c.before.before.before.before.before.before.before.before.before.before.before.before.args.upto _ (pass-broken (decodeTable c.before.before.before.before.before.before.before.before.before.before.before.before.args.words.now).code c.before.before.before.before.before.before.before.before.before.before.before.before.args.from c.before.before.before.before.before.before.before.before.before.before.before.before.args.upto c.before.before.before.before.before.before.before.before.before.loop.x c.before.before.before.before.before.before.before.before.before.loop.hs c.before.before.before.before.before.before.before.before.before.loop.invariant.1 c.before.before.before.before.before.before.before.before.loop-test.true _ _
+returns-2 c = passed-not (decode_table c.before.before.before.before.before.before.before.before.before.before.before.before.args.words.now).code c.before.before.before.before.before.before.before.before.before.before.before.before.args.from c.before.before.before.before.before.before.before.before.before.before.before.before.args.upto _ (pass-broken (decode_table c.before.before.before.before.before.before.before.before.before.before.before.before.args.words.now).code c.before.before.before.before.before.before.before.before.before.before.before.before.args.from c.before.before.before.before.before.before.before.before.before.before.before.before.args.upto c.before.before.before.before.before.before.before.before.before.loop.x c.before.before.before.before.before.before.before.before.before.loop.hs c.before.before.before.before.before.before.before.before.before.loop.invariant.1 c.before.before.before.before.before.before.before.before.loop-test.true _ _
     (kind_at c.before.before.before.before.before.before.before.before.before.before.before.before.args.words.now c.before.before.before.before.before.before.before.before.before.before.before.before.requires.0 c.before.before.before.before.before.before.before.before.before.loop.x (omega arith))
     c.before.before.before.step.new.0 c.before.before.before.step.result (c.before.before.before.before.before.before.ahead.ensures.holds (not-false _ c.before.before.before.before.before.if1.false)) c.before.before.before.step.ensures (not-true _ c.if2.true))
 
@@ -64,7 +64,7 @@ loop-less c = search rules
 loop-again : tie.Need-loop-preserved invariant-loop decreases-loop
 loop-again c = (
   omega arith,
-  pass-more (decodeTable c.before.before.before.before.before.before.before.before.before.before.before.before.args.words.now).code c.before.before.before.before.before.before.before.before.before.before.before.before.args.from c.before.before.before.before.before.before.before.before.before.before.before.before.args.upto c.before.before.before.before.before.before.before.before.before.loop.x c.before.before.before.before.before.before.before.before.before.loop.hs c.before.before.before.before.before.before.before.before.before.loop.invariant.1 c.before.before.before.before.before.before.before.before.loop-test.true _ _
+  pass_more (decode_table c.before.before.before.before.before.before.before.before.before.before.before.before.args.words.now).code c.before.before.before.before.before.before.before.before.before.before.before.before.args.from c.before.before.before.before.before.before.before.before.before.before.before.before.args.upto c.before.before.before.before.before.before.before.before.before.loop.x c.before.before.before.before.before.before.before.before.before.loop.hs c.before.before.before.before.before.before.before.before.before.loop.invariant.1 c.before.before.before.before.before.before.before.before.loop-test.true _ _
       (kind_at c.before.before.before.before.before.before.before.before.before.before.before.before.args.words.now c.before.before.before.before.before.before.before.before.before.before.before.before.requires.0 c.before.before.before.before.before.before.before.before.before.loop.x (omega arith))
       c.before.before.before.step.new.0 c.before.before.before.step.result (c.before.before.before.before.before.before.ahead.ensures.holds (not-false _ c.before.before.before.before.before.if1.false)) c.before.before.before.step.ensures (not-false _ c.if2.false),
 )
@@ -78,8 +78,8 @@ same-length-3 c = c.before.before.before.loop.invariant.1.long ∙ sym c.before.
 returns-3 : tie.Need-returns-3 invariant-loop decreases-loop
 returns-3 c =
     let q : c.before.before.before.loop.x ≡ c.before.before.before.before.before.before.args.upto = omega (arith, c.before.before.loop-test.false) in
-    let d = subst (λ x. Done (decodeTable c.before.before.before.before.before.before.args.words.now).code c.before.before.before.before.before.before.args.from c.before.before.before.before.before.before.args.upto x c.before.before.before.loop.hs) q c.before.before.before.loop.invariant.1 in
-    passed-not (decodeTable c.before.before.before.before.before.before.args.words.now).code c.before.before.before.before.before.before.args.from c.before.before.before.before.before.before.args.upto _ (pass-end (decodeTable c.before.before.before.before.before.before.args.words.now).code c.before.before.before.before.before.before.args.from c.before.before.before.before.before.before.args.upto c.before.before.before.loop.hs d c.if3.true)
+    let d = subst (λ x. Done (decode_table c.before.before.before.before.before.before.args.words.now).code c.before.before.before.before.before.before.args.from c.before.before.before.before.before.before.args.upto x c.before.before.before.loop.hs) q c.before.before.before.loop.invariant.1 in
+    passed-not (decode_table c.before.before.before.before.before.before.args.words.now).code c.before.before.before.before.before.before.args.from c.before.before.before.before.before.before.args.upto _ (pass_end (decode_table c.before.before.before.before.before.before.args.words.now).code c.before.before.before.before.before.before.args.from c.before.before.before.before.before.before.args.upto c.before.before.before.loop.hs d c.if3.true)
 
 slice-write-hs : tie.Need-slice-write-hs invariant-loop decreases-loop
 slice-write-hs c = omega (arith, c.before.before.before.loop.invariant.1.long)
@@ -90,11 +90,11 @@ same-length-4 c = length-set {A = ℕ} c.before.before.before.loop.hs c.before.b
 returns-4 : tie.Need-returns-4 invariant-loop decreases-loop
 returns-4 c =
     let q : c.before.before.before.loop.x ≡ c.before.before.before.before.before.before.args.upto = omega (arith, c.before.before.loop-test.false) in
-    let d = subst (λ x. Done (decodeTable c.before.before.before.before.before.before.args.words.now).code c.before.before.before.before.before.before.args.from c.before.before.before.before.before.before.args.upto x c.before.before.before.loop.hs) q c.before.before.before.loop.invariant.1 in
+    let d = subst (λ x. Done (decode_table c.before.before.before.before.before.before.args.words.now).code c.before.before.before.before.before.before.args.from c.before.before.before.before.before.before.args.upto x c.before.before.before.loop.hs) q c.before.before.before.loop.invariant.1 in
     record {
-      holds = λ z. pass-sound (decodeTable c.before.before.before.before.before.before.args.words.now).code c.before.before.before.before.before.before.args.from c.before.before.before.before.before.before.args.upto c.before.before.before.loop.hs d c.if3.false;
+      holds = λ z. pass-sound (decode_table c.before.before.before.before.before.before.args.words.now).code c.before.before.before.before.before.before.args.from c.before.before.before.before.before.before.args.upto c.before.before.before.loop.hs d c.if3.false;
       fails = λ z. differ z;
-      fresh = λ z. pass-fresh (decodeTable c.before.before.before.before.before.before.args.words.now).code c.before.before.before.before.before.before.args.from c.before.before.before.before.before.before.args.upto c.before.before.before.loop.hs d (omega arith);
+      fresh = λ z. pass-fresh (decode_table c.before.before.before.before.before.before.args.words.now).code c.before.before.before.before.before.before.args.from c.before.before.before.before.before.before.args.upto c.before.before.before.loop.hs d (omega arith);
     }
 
 pub heights-spec : {M : Type 1} → statement M

@@ -2,7 +2,7 @@
 -- Assumes nothing.
 use borrow.Author.Tests.{eqb-true, eqb-false}
 use borrow.Author.Rules.{rules}
-use Rattle.fitness.proofs.Passes.{put-off, put-new, put-old}
+use Rattle.fitness.proofs.Passes.{put-off, put-new, put_old}
 use Rattle.fitness.proofs.heights.put.Statement.{statement}
 use Rattle.fitness.proofs.heights.put.Tie as tie
 
@@ -19,7 +19,7 @@ returns : tie.Need-returns
 returns c = put-new c.before.before.before.args.hs.now c.before.before.before.args.j c.before.before.before.args.h _ c.before.before.if1.true (c.before.before.before.requires c.before.before.if1.true) c.if2.true
 
 returns-2 : tie.Need-returns-2
-returns-2 c = put-old c.before.before.before.args.hs.now c.before.before.before.args.j c.before.before.before.args.h _ _ c.before.before.if1.true c.if2.false (eqb-true _ _) (eqb-false _ _)
+returns-2 c = put_old c.before.before.before.args.hs.now c.before.before.before.args.j c.before.before.before.args.h _ _ c.before.before.if1.true c.if2.false (eqb-true _ _) (eqb-false _ _)
 
 returns-3 : tie.Need-returns-3
 returns-3 c = put-off c.before.args.hs.now c.before.args.j c.before.args.h _ c.if1.false

@@ -1,7 +1,7 @@
 -- `fitness::kinds::delay_below` meets its contract: the table is the definition.
 -- Assumes nothing.
 use borrow.Author.Rules.{rules}
-use Rattle.fitness.specs.Inside.Kinds.{delayBelow}
+use Rattle.fitness.specs.Inside.Kinds.{delay_below}
 use Rattle.fitness.proofs.kinds.delay_below.Statement.{statement}
 use Rattle.fitness.proofs.kinds.delay_below.Tie as tie
 
@@ -12,7 +12,7 @@ array-read-result : tie.Need-array-read-result
 array-read-result c = search rules
 
 returns : tie.Need-returns
-unfolding delayBelow
+unfolding delay_below
 returns c = search rules
 
 pub delay-below-spec : {M : Type 1} → statement M

@@ -3,18 +3,18 @@
 use borrow.Author.Tests.{ltb-true, ltb-false}
 use borrow.Author.Rules.{rules}
 use native.Mathlib.Omega.{arith}
-use Rattle.laws.proofs.Deciding.{decides-no}
+use Rattle.laws.proofs.Deciding.{decides_no}
 use Rattle.fitness.proofs.kinds.legal.Statement.{statement}
 use Rattle.fitness.proofs.kinds.legal.Tie as tie
 
 returns : tie.Need-returns
-returns c = decides-no _ (λ l. omega (arith, l.exists))
+returns c = decides_no _ (λ l. omega (arith, l.exists))
 
 about-below-requires : tie.Need-about-below-requires
 about-below-requires c κs = search rules
 
 returns-2 : tie.Need-returns-2
-returns-2 c = decides-no _ (λ l. omega (arith, l.about))
+returns-2 c = decides_no _ (λ l. omega (arith, l.about))
 
 delay-below-requires : tie.Need-delay-below-requires
 delay-below-requires c κs = search rules

@@ -5,7 +5,7 @@ use borrow.Author.Count.{below_more}
 use borrow.Author.Tests.{not-true, not-false}
 use borrow.Author.Rules.{rules}
 use native.Mathlib.Omega.{arith}
-use Rattle.laws.proofs.Deciding.{decides-yes, decides-no}
+use Rattle.laws.proofs.Deciding.{decides_yes, decides_no}
 use Rattle.fitness.specs.Inside.Kinds.{Legals}
 use Rattle.fitness.proofs.kinds.legals.Statement.{statement}
 use Rattle.fitness.proofs.kinds.legals.Tie as tie
@@ -47,7 +47,7 @@ legal-requires : tie.Need-legal-requires invariant-loop decreases-loop
 legal-requires c κs = search rules
 
 returns : tie.Need-returns invariant-loop decreases-loop
-returns c = decides-no _ (λ a. c.before.legal.ensures.fails (not-true _ c.if1.true) (a c.before.before.before.before.before.loop.x c.before.before.before.before.loop-test.true))
+returns c = decides_no _ (λ a. c.before.legal.ensures.fails (not-true _ c.if1.true) (a c.before.before.before.before.before.loop.x c.before.before.before.before.loop-test.true))
 
 add-x : tie.Need-overflow-add-x invariant-loop decreases-loop
 add-x c = search rules
@@ -59,7 +59,7 @@ loop-again : tie.Need-loop-preserved invariant-loop decreases-loop
 loop-again c = (omega arith, below_more _ _ c.before.before.before.before.before.loop.invariant.1 (c.before.legal.ensures.holds (not-false _ c.if1.false)))
 
 returns-2 : tie.Need-returns-2 invariant-loop decreases-loop
-returns-2 c = decides-yes _ (λ i l. c.before.loop.invariant.1 i (omega arith))
+returns-2 c = decides_yes _ (λ i l. c.before.loop.invariant.1 i (omega arith))
 
 pub legals-spec : {M : Type 1} → statement M
 legals-spec =

@@ -1,7 +1,7 @@
 -- `fitness::kinds::takes_of` meets its contract: the table is the definition.
 -- Assumes nothing.
 use borrow.Author.Rules.{rules}
-use Rattle.fitness.specs.Inside.Kinds.{takesOf}
+use Rattle.fitness.specs.Inside.Kinds.{takes_of}
 use Rattle.fitness.proofs.kinds.takes_of.Statement.{statement}
 use Rattle.fitness.proofs.kinds.takes_of.Tie as tie
 
@@ -9,7 +9,7 @@ array-read-result : tie.Need-array-read-result
 array-read-result c = search rules
 
 returns : tie.Need-returns
-unfolding takesOf
+unfolding takes_of
 returns c = search rules
 
 pub takes-of-spec : {M : Type 1} → statement M

@@ -4,16 +4,16 @@ use Prim.Native.Nat.{◌-◌, ◌≤◌}
 use mathlib.Core.Path.{◌≡◌, refl}
 use borrow.Author.Rules.{rules}
 use native.Mathlib.Omega.{arith}
-use Rattle.laws.proofs.Deciding.{decides-no}
+use Rattle.laws.proofs.Deciding.{decides_no}
 use Rattle.table.specs.Table.{begins}
-use Rattle.layout.proofs.Tables.{decodeTable}
+use Rattle.layout.proofs.Tables.{decode_table}
 use Rattle.fitness.specs.Inside.Parts.{processes, instructions}
-use Rattle.fitness.proofs.Reading.{RisingTo, begins-next, ends-bad, ends_more, ends-done}
+use Rattle.fitness.proofs.Reading.{RisingTo, begins_next, ends_bad, ends_more, ends-done}
 use Rattle.fitness.proofs.parts.ends.Statement.{statement}
 use Rattle.fitness.proofs.parts.ends.Tie as tie
 
 abbrev invariant-loop : tie.invariant-loop
-invariant-loop words processes from₀ p₀ from p = (p ≤ processes) × (from ≡ begins (decodeTable words) p) × RisingTo (decodeTable words) p
+invariant-loop words processes from₀ p₀ from p = (p ≤ processes) × (from ≡ begins (decode_table words) p) × RisingTo (decode_table words) p
 
 abbrev decreases-loop : tie.decreases-loop
 decreases-loop words processes from₀ p₀ from p = processes - p
@@ -34,7 +34,7 @@ shared-slice-read-end : tie.Need-shared-slice-read-end invariant-loop decreases-
 shared-slice-read-end c = search rules
 
 returns : tie.Need-returns invariant-loop decreases-loop
-returns c = decides-no _ (ends-bad c.before.before.before.before.before.args.words.now c.before.before.before.loop.p c.before.before.before.loop.from c.before.before.loop-test.true c.before.before.before.loop.invariant.1 _ c.if1.true)
+returns c = decides_no _ (ends_bad c.before.before.before.before.before.args.words.now c.before.before.before.loop.p c.before.before.before.loop.from c.before.before.loop-test.true c.before.before.before.loop.invariant.1 _ c.if1.true)
 
 add-p : tie.Need-overflow-add-p invariant-loop decreases-loop
 add-p c = search rules
@@ -43,13 +43,13 @@ loop-less : tie.Need-loop-smaller invariant-loop decreases-loop
 loop-less c = search rules
 
 loop-again : tie.Need-loop-preserved invariant-loop decreases-loop
-loop-again c = (omega arith, begins-next c.before.before.before.before.before.args.words.now c.before.before.before.loop.p c.before.before.loop-test.true, ends_more c.before.before.before.before.before.args.words.now c.before.before.before.loop.p c.before.before.before.loop.from c.before.before.loop-test.true c.before.before.before.loop.invariant.1 c.if1.false c.before.before.before.loop.invariant.2)
+loop-again c = (omega arith, begins_next c.before.before.before.before.before.args.words.now c.before.before.before.loop.p c.before.before.loop-test.true, ends_more c.before.before.before.before.before.args.words.now c.before.before.before.loop.p c.before.before.before.loop.from c.before.before.loop-test.true c.before.before.before.loop.invariant.1 c.if1.false c.before.before.before.loop.invariant.2)
 
 shared-slice-read-result : tie.Need-shared-slice-read-result invariant-loop decreases-loop
 shared-slice-read-result c = search rules
 
 returns-2 : tie.Need-returns-2 invariant-loop decreases-loop
-returns-2 c = ends-done (decodeTable c.before.before.before.before.args.words.now) (processes c.before.before.before.before.args.words.now) (instructions c.before.before.before.before.args.words.now) c.before.before.loop.p c.before.before.loop.from (omega arith) c.before.before.loop.invariant.1 c.before.before.loop.invariant.2
+returns-2 c = ends-done (decode_table c.before.before.before.before.args.words.now) (processes c.before.before.before.before.args.words.now) (instructions c.before.before.before.before.args.words.now) c.before.before.loop.p c.before.before.loop.from (omega arith) c.before.before.loop.invariant.1 c.before.before.loop.invariant.2
 
 pub ends-spec : {M : Type 1} → statement M
 ends-spec =

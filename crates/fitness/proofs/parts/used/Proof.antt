@@ -4,9 +4,9 @@ use Prim.Native.Nat.{◌+◌}
 use mathlib.Core.Path.{sym, subst}
 use borrow.Author.Tests.{not-true, not-false}
 use borrow.Author.Rules.{rules}
-use Rattle.laws.proofs.Deciding.{decides-no}
+use Rattle.laws.proofs.Deciding.{decides_no}
 use Rattle.fitness.specs.Inside.Parts.{signals, Within}
-use Rattle.fitness.proofs.Ranges.{most-is}
+use Rattle.fitness.proofs.Ranges.{most_is}
 use Rattle.fitness.proofs.parts.used.Statement.{statement}
 use Rattle.fitness.proofs.parts.used.Tie as tie
 
@@ -20,7 +20,7 @@ within-requires : tie.Need-within-requires
 within-requires c κs = search rules
 
 returns : tie.Need-returns
-returns c = decides-no _ (λ u. c.before.within.ensures.fails (not-true _ c.if1.true) u.values)
+returns c = decides_no _ (λ u. c.before.within.ensures.fails (not-true _ c.if1.true) u.values)
 
 shared-slice-read-most-of : tie.Need-shared-slice-read-most-of
 shared-slice-read-most-of c = search rules
@@ -36,7 +36,7 @@ within-requires-2 c κs = search rules
 
 returns-2 : tie.Need-returns-2
 returns-2 c =
-    let e = most-is _ _ c.before.most-of.ensures in
+    let e = most_is _ _ c.before.most-of.ensures in
     record {
       holds = λ z. record {
         values = c.before.before.before.before.within.ensures.holds (not-false _ c.before.before.before.if1.false);

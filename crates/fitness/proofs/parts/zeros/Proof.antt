@@ -4,7 +4,7 @@ use Prim.Native.Nat.{◌-◌, ◌≤◌}
 use borrow.Author.Rules.{rules}
 use native.Mathlib.Omega.{arith}
 use Rattle.fitness.specs.Inside.Parts.{Gathered}
-use Rattle.fitness.proofs.Ranges.{gather_none, gather-more, gather-done}
+use Rattle.fitness.proofs.Ranges.{gather_none, gather_more, gather_done}
 use Rattle.fitness.proofs.parts.zeros.Statement.{statement}
 use Rattle.fitness.proofs.parts.zeros.Tie as tie
 
@@ -30,10 +30,10 @@ loop-less : tie.Need-loop-smaller invariant-loop decreases-loop
 loop-less c = search rules
 
 loop-again : tie.Need-loop-preserved invariant-loop decreases-loop
-loop-again c = (omega arith, gather-more c.before.before.before.args.words.now c.before.before.before.args.from c.before.before.loop.j c.before.before.loop.all c.before.before.loop.invariant.1)
+loop-again c = (omega arith, gather_more c.before.before.before.args.words.now c.before.before.before.args.from c.before.before.loop.j c.before.before.loop.all c.before.before.loop.invariant.1)
 
 returns : tie.Need-returns invariant-loop decreases-loop
-returns c = gather-done c.before.before.args.words.now c.before.before.args.from c.before.before.args.upto c.before.loop.j c.before.loop.all (omega arith) c.before.loop.invariant.1
+returns c = gather_done c.before.before.args.words.now c.before.before.args.from c.before.before.args.upto c.before.loop.j c.before.loop.all (omega arith) c.before.loop.invariant.1
 
 pub zeros-spec : {M : Type 1} → statement M
 zeros-spec =

@@ -8,14 +8,14 @@ use lib.ListN.{get_or}
 use Rattle.laws.specs.Pick.{same_list}
 use Rattle.look.specs.Inside.Looks.{name_at}
 use Rattle.names.specs.Judge.{number_of}
-use Rattle.ledger.specs.Inside.Standing.{namesFrom}
-use Rattle.ledger.proofs.Shelves.{find-hit, find-miss, find_none, find_first}
+use Rattle.ledger.specs.Inside.Standing.{names_from}
+use Rattle.ledger.proofs.Shelves.{find_hit, find_miss, find_none, find_first}
 use Rattle.ledger.proofs.shelf.find.Statement.{statement}
 use Rattle.ledger.proofs.shelf.find.Tie as tie
 
 abbrev invariant-loop : tie.invariant-loop
 invariant-loop text ledger base count start end i₀ i =
-    (i ≤ count) × (i + number_of (name_at text start end) (namesFrom text ledger (base + 2 * i) (count - i)) ≡ number_of (name_at text start end) (namesFrom text ledger base count))
+    (i ≤ count) × (i + number_of (name_at text start end) (names_from text ledger (base + 2 * i) (count - i)) ≡ number_of (name_at text start end) (names_from text ledger base count))
 
 abbrev decreases-loop : tie.decreases-loop
 decreases-loop text ledger base count start end i₀ i = count - i
@@ -37,7 +37,7 @@ unfolding name_at
 returns c =
     let same : c.before.is_same.result ≡ same_list (name_at c.before.before.before.before.before.args.text.now (get_or c.before.before.before.before.before.args.ledger.now (c.before.before.before.before.before.args.base + 2 * c.before.before.before.loop.i) 0) (get_or c.before.before.before.before.before.args.ledger.now (c.before.before.before.before.before.args.base + 2 * c.before.before.before.loop.i + 1) 0)) (name_at c.before.before.before.before.before.args.text.now c.before.before.before.before.before.args.start c.before.before.before.before.before.args.end) =
     c.before.is_same.ensures in
-    sym (find-hit c.before.before.before.before.before.args.text.now c.before.before.before.before.before.args.ledger.now c.before.before.before.before.before.args.base c.before.before.before.before.before.args.count c.before.before.before.loop.i (name_at c.before.before.before.before.before.args.text.now c.before.before.before.before.before.args.start c.before.before.before.before.before.args.end) c.before.before.loop-test.true c.before.is_same.result same c.if1.true) ∙ c.before.before.before.loop.invariant.1
+    sym (find_hit c.before.before.before.before.before.args.text.now c.before.before.before.before.before.args.ledger.now c.before.before.before.before.before.args.base c.before.before.before.before.before.args.count c.before.before.before.loop.i (name_at c.before.before.before.before.before.args.text.now c.before.before.before.before.before.args.start c.before.before.before.before.before.args.end) c.before.before.loop-test.true c.before.is_same.result same c.if1.true) ∙ c.before.before.before.loop.invariant.1
 
 add-i : tie.Need-overflow-add-i invariant-loop decreases-loop
 add-i c = search rules
@@ -50,7 +50,7 @@ unfolding name_at
 loop-again c =
     let same : c.before.is_same.result ≡ same_list (name_at c.before.before.before.before.before.args.text.now (get_or c.before.before.before.before.before.args.ledger.now (c.before.before.before.before.before.args.base + 2 * c.before.before.before.loop.i) 0) (get_or c.before.before.before.before.before.args.ledger.now (c.before.before.before.before.before.args.base + 2 * c.before.before.before.loop.i + 1) 0)) (name_at c.before.before.before.before.before.args.text.now c.before.before.before.before.before.args.start c.before.before.before.before.before.args.end) =
     c.before.is_same.ensures in
-    (omega arith, find-miss c.before.before.before.before.before.args.text.now c.before.before.before.before.before.args.ledger.now c.before.before.before.before.before.args.base c.before.before.before.before.before.args.count c.before.before.before.loop.i (name_at c.before.before.before.before.before.args.text.now c.before.before.before.before.before.args.start c.before.before.before.before.before.args.end) c.before.before.loop-test.true c.before.is_same.result same c.if1.false ∙ c.before.before.before.loop.invariant.1)
+    (omega arith, find_miss c.before.before.before.before.before.args.text.now c.before.before.before.before.before.args.ledger.now c.before.before.before.before.before.args.base c.before.before.before.before.before.args.count c.before.before.before.loop.i (name_at c.before.before.before.before.before.args.text.now c.before.before.before.before.before.args.start c.before.before.before.before.before.args.end) c.before.before.loop-test.true c.before.is_same.result same c.if1.false ∙ c.before.before.before.loop.invariant.1)
 
 returns-2 : tie.Need-returns-2 invariant-loop decreases-loop
 returns-2 c = sym (find_none c.before.before.before.args.text.now c.before.before.before.args.ledger.now c.before.before.before.args.base c.before.before.before.args.count c.before.loop.i (name_at c.before.before.before.args.text.now c.before.before.before.args.start c.before.before.before.args.end) c.loop-test.false c.before.loop.invariant.0) ∙ c.before.loop.invariant.1

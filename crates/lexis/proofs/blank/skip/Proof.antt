@@ -6,13 +6,13 @@ use mathlib.Core.Bool.{false}
 use borrow.Author.Rules.{rules}
 use lib.ListN.{length, drop}
 use Rattle.laws.proofs.Lists.{rest}
-use Rattle.lexis.specs.Blank.{dashesOf, skipFrom}
-use Rattle.lexis.proofs.Walks.{skip-on, skip_stop, skip-refused, skip-end}
+use Rattle.lexis.specs.Blank.{dashes_of, skip_from}
+use Rattle.lexis.proofs.Walks.{skip_on, skip_stop, skip-refused, skip_end}
 use Rattle.lexis.proofs.blank.skip.Statement.{statement}
 use Rattle.lexis.proofs.blank.skip.Tie as tie
 
 abbrev invariant-loop : tie.invariant-loop
-invariant-loop text i₀ inside₀ i inside = (i ≤ length text) × (skipFrom inside i (drop i text) ≡ skipFrom false 0 text)
+invariant-loop text i₀ inside₀ i inside = (i ≤ length text) × (skip_from inside i (drop i text) ≡ skip_from false 0 text)
 
 abbrev decreases-loop : tie.decreases-loop
 decreases-loop text i₀ inside₀ i inside = length text - i
@@ -53,8 +53,8 @@ loop-less c = search rules
 loop-again : tie.Need-loop-preserved invariant-loop decreases-loop
 loop-again c = (
   search rules,
-  skip-on c.before.before.before.before.before.before.before.before.before.before.before.args.text.now c.before.before.before.before.before.before.before.before.before.loop.i c.before.before.before.before.before.before.before.before.loop-test.true c.before.before.before.before.before.before.class_of.result c.before.before.before.before.before.before.class_of.ensures
-      c.before.before.before.before.before.before.before.before.before.loop.inside c.before.before.before.before.dashes.result (c.before.before.before.before.dashes.ensures ∙ ap dashesOf (rest c.before.before.before.before.before.before.before.before.before.before.before.args.text.now c.before.before.before.before.before.before.before.before.before.loop.i)) c.before.before.before.step_of_lem.result c.before.before.before.step_of_lem.ensures
+  skip_on c.before.before.before.before.before.before.before.before.before.before.before.args.text.now c.before.before.before.before.before.before.before.before.before.loop.i c.before.before.before.before.before.before.before.before.loop-test.true c.before.before.before.before.before.before.class_of.result c.before.before.before.before.before.before.class_of.ensures
+      c.before.before.before.before.before.before.before.before.before.loop.inside c.before.before.before.before.dashes.result (c.before.before.before.before.dashes.ensures ∙ ap dashes_of (rest c.before.before.before.before.before.before.before.before.before.before.before.args.text.now c.before.before.before.before.before.before.before.before.before.loop.i)) c.before.before.before.step_of_lem.result c.before.before.before.step_of_lem.ensures
       c.before.comment.given.0.0 c.before.comment.given.1 ∙ c.before.before.before.before.before.before.before.before.before.loop.invariant.1,
 )
 
@@ -63,7 +63,7 @@ enum_told c = search rules
 
 returns : tie.Need-returns invariant-loop decreases-loop
 returns c = skip_stop c.before.before.before.before.before.before.before.before.before.before.args.text.now c.before.before.before.before.before.before.before.before.loop.i c.before.before.before.before.before.before.before.loop-test.true c.before.before.before.before.before.class_of.result c.before.before.before.before.before.class_of.ensures
-    c.before.before.before.before.before.before.before.before.loop.inside c.before.before.before.dashes.result (c.before.before.before.dashes.ensures ∙ ap dashesOf (rest c.before.before.before.before.before.before.before.before.before.before.args.text.now c.before.before.before.before.before.before.before.before.loop.i)) c.before.before.step_of_lem.result c.before.before.step_of_lem.ensures
+    c.before.before.before.before.before.before.before.before.loop.inside c.before.before.before.dashes.result (c.before.before.before.dashes.ensures ∙ ap dashes_of (rest c.before.before.before.before.before.before.before.before.before.before.args.text.now c.before.before.before.before.before.before.before.before.loop.i)) c.before.before.step_of_lem.result c.before.before.step_of_lem.ensures
     c.enum_told.given.1 ∙ c.before.before.before.before.before.before.before.before.loop.invariant.1
 
 enum-told-2 : tie.Need-enum-told-2 invariant-loop decreases-loop
@@ -71,11 +71,11 @@ enum-told-2 c = search rules
 
 returns-2 : tie.Need-returns-2 invariant-loop decreases-loop
 returns-2 c = skip-refused c.before.before.before.before.before.before.before.before.before.before.args.text.now c.before.before.before.before.before.before.before.before.loop.i c.before.before.before.before.before.before.before.loop-test.true c.before.before.before.before.before.class_of.result c.before.before.before.before.before.class_of.ensures
-    c.before.before.before.before.before.before.before.before.loop.inside c.before.before.before.dashes.result (c.before.before.before.dashes.ensures ∙ ap dashesOf (rest c.before.before.before.before.before.before.before.before.before.before.args.text.now c.before.before.before.before.before.before.before.before.loop.i)) c.before.before.step_of_lem.result c.before.before.step_of_lem.ensures
+    c.before.before.before.before.before.before.before.before.loop.inside c.before.before.before.dashes.result (c.before.before.before.dashes.ensures ∙ ap dashes_of (rest c.before.before.before.before.before.before.before.before.before.before.args.text.now c.before.before.before.before.before.before.before.before.loop.i)) c.before.before.step_of_lem.result c.before.before.step_of_lem.ensures
     c.enum-told2.given.1 ∙ c.before.before.before.before.before.before.before.before.loop.invariant.1
 
 returns-3 : tie.Need-returns-3 invariant-loop decreases-loop
-returns-3 c = skip-end c.before.before.before.args.text.now c.before.loop.i c.loop-test.false c.before.loop.inside ∙ c.before.loop.invariant.1
+returns-3 c = skip_end c.before.before.before.args.text.now c.before.loop.i c.loop-test.false c.before.loop.inside ∙ c.before.loop.invariant.1
 
 pub skip-spec : {M : Type 1} → statement M
 skip-spec =

@@ -6,7 +6,7 @@ use mathlib.Core.List.{[], ◌∷◌}
 use borrow.Author.Rules.{rules}
 use borrow.Author.Tests.{lt-ltb, le-ltb, not-true, not-false}
 use lib.ListN.{get_or}
-use Rattle.lexis.specs.Byte.{classOf, isLetter}
+use Rattle.lexis.specs.Byte.{class_of, is_letter}
 use Rattle.lexis.specs.declared.byte.Class.{Class}
 use Rattle.lexis.proofs.Classes.{among}
 use Rattle.lexis.proofs.run.shape_of.Statement.{statement}
@@ -38,14 +38,14 @@ enum_told c = search rules
 
 returns-4 : tie.Need-returns-4
 returns-4 c =
-    let k : classOf (get_or c.before.before.before.before.before.before.before.before.before.before.args.run.now 0 0) ≡ c.before.before.class_of.result = ap classOf (sym c.before.before.before.byte_at.ensures) ∙ sym c.before.before.class_of.ensures in
+    let k : class_of (get_or c.before.before.before.before.before.before.before.before.before.before.args.run.now 0 0) ≡ c.before.before.class_of.result = ap class_of (sym c.before.before.before.byte_at.ensures) ∙ sym c.before.before.class_of.ensures in
     rw (sym c.before.before.before.before.before.before.before.before.all_digits.ensures ∙ c.before.before.before.before.before.before.before.if1.false, le-ltb _ _ c.before.before.before.before.before.before.if2.false, sym c.before.before.before.before.before.single-underscores.ensures ∙ not-false _ c.before.before.before.before.if3.false, k, c.enum_told.given.1)
 
 returns-5 : tie.Need-returns-5
 returns-5 c =
-    let k : classOf (get_or c.before.before.before.before.before.before.before.before.before.args.run.now 0 0) ≡ c.before.class_of.result = ap classOf (sym c.before.before.byte_at.ensures) ∙ sym c.before.class_of.ensures in
-    let f : isLetter c.before.class_of.result ≡ false =
-    among (λ (k : Class). isLetter k ≡ false) c.before.class_of.result 1 (2 ∷ 3 ∷ 4 ∷ 5 ∷ 6 ∷ 7 ∷ []) c.match.keys2 (refl, (refl, (refl, (refl, (refl, (refl, refl)))))) in
+    let k : class_of (get_or c.before.before.before.before.before.before.before.before.before.args.run.now 0 0) ≡ c.before.class_of.result = ap class_of (sym c.before.before.byte_at.ensures) ∙ sym c.before.class_of.ensures in
+    let f : is_letter c.before.class_of.result ≡ false =
+    among (λ (k : Class). is_letter k ≡ false) c.before.class_of.result 1 (2 ∷ 3 ∷ 4 ∷ 5 ∷ 6 ∷ 7 ∷ []) c.match.keys2 (refl, (refl, (refl, (refl, (refl, (refl, refl)))))) in
     rw (sym c.before.before.before.before.before.before.before.all_digits.ensures ∙ c.before.before.before.before.before.before.if1.false, le-ltb _ _ c.before.before.before.before.before.if2.false, sym c.before.before.before.before.single-underscores.ensures ∙ not-false _ c.before.before.before.if3.false, k, f)
 
 pub shape-of-spec : {M : Type 1} → statement M

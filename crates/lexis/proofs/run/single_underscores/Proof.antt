@@ -7,11 +7,11 @@ use mathlib.Core.Logic.{⊎_elim}
 use mathlib.Core.List.{[], ◌∷◌}
 use borrow.Author.Rules.{rules}
 use lib.ListN.{length, drop}
-use Rattle.lexis.specs.Byte.{isUnderscore}
+use Rattle.lexis.specs.Byte.{is_underscore}
 use Rattle.lexis.specs.Run.{singles}
 use Rattle.lexis.specs.declared.byte.Class.{Class}
 use Rattle.lexis.proofs.Classes.{among}
-use Rattle.lexis.proofs.Walks.{singles-on, singles-off, singles-end, none_after}
+use Rattle.lexis.proofs.Walks.{singles_on, singles-off, singles_end, none_after}
 use Rattle.lexis.proofs.run.single_underscores.Statement.{statement}
 use Rattle.lexis.proofs.run.single_underscores.Tie as tie
 
@@ -35,7 +35,7 @@ enum_told c = search rules
 
 returns : tie.Need-returns invariant-loop decreases-loop
 returns c =
-    let u : isUnderscore c.before.before.before.class_of.result ≡ true = among (λ (k : Class). isUnderscore k ≡ true) c.before.before.before.class_of.result 2 [] c.before.before.match.keys1 refl in
+    let u : is_underscore c.before.before.before.class_of.result ≡ true = among (λ (k : Class). is_underscore k ≡ true) c.before.before.before.class_of.result 2 [] c.before.before.match.keys1 refl in
     singles-off c.before.before.before.before.before.before.before.before.args.run.now c.before.before.before.before.before.before.loop.i c.before.before.before.before.before.loop-test.true c.before.before.before.class_of.result c.before.before.before.class_of.ensures c.before.before.before.before.before.before.loop.after (rw (c.if1.true, u)) ∙ c.before.before.before.before.before.before.loop.invariant.1
 
 add-i : tie.Need-overflow-add-i invariant-loop decreases-loop
@@ -47,20 +47,20 @@ loop-less c = search rules
 loop-again : tie.Need-loop-preserved invariant-loop decreases-loop
 loop-again c =
     let k = c.before.class_of.result in
-    let on = singles-on c.before.before.before.before.before.before.args.run.now c.before.before.before.before.loop.i c.before.before.before.loop-test.true c.before.class_of.result c.before.class_of.ensures c.before.before.before.before.loop.after in
+    let on = singles_on c.before.before.before.before.before.before.args.run.now c.before.before.before.before.loop.i c.before.before.before.loop-test.true c.before.class_of.result c.before.class_of.ensures c.before.before.before.before.loop.after in
     let next : Bool → Bool = λ (b : Bool). singles b (drop (c.before.before.before.before.loop.i + 1) c.before.before.before.before.before.before.args.run.now) in (
       search rules,
       ⊎_elim
-          (λ w. ap next (w.3 ∙ sym (among (λ (k : Class). isUnderscore k ≡ true) k 2 [] w.0.keys1 refl)) ∙ on (rw w.2.left) ∙ c.before.before.before.before.loop.invariant.1)
+          (λ w. ap next (w.3 ∙ sym (among (λ (k : Class). is_underscore k ≡ true) k 2 [] w.0.keys1 refl)) ∙ on (rw w.2.left) ∙ c.before.before.before.before.loop.invariant.1)
           (λ w.
-          let u : isUnderscore k ≡ false =
-          among (λ (k : Class). isUnderscore k ≡ false) k 0 (1 ∷ 3 ∷ 4 ∷ 5 ∷ 6 ∷ 7 ∷ []) w.0.keys2 (refl, (refl, (refl, (refl, (refl, (refl, refl)))))) in
-          ap next (w.1 ∙ sym u) ∙ on (none_after c.before.before.before.before.loop.after (isUnderscore k) u) ∙ c.before.before.before.before.loop.invariant.1)
+          let u : is_underscore k ≡ false =
+          among (λ (k : Class). is_underscore k ≡ false) k 0 (1 ∷ 3 ∷ 4 ∷ 5 ∷ 6 ∷ 7 ∷ []) w.0.keys2 (refl, (refl, (refl, (refl, (refl, (refl, refl)))))) in
+          ap next (w.1 ∙ sym u) ∙ on (none_after c.before.before.before.before.loop.after (is_underscore k) u) ∙ c.before.before.before.before.loop.invariant.1)
           c.match.branch,
     )
 
 returns-2 : tie.Need-returns-2 invariant-loop decreases-loop
-returns-2 c = singles-end c.before.before.before.args.run.now c.before.loop.i c.loop-test.false c.before.loop.after ∙ c.before.loop.invariant.1
+returns-2 c = singles_end c.before.before.before.args.run.now c.before.loop.i c.loop-test.false c.before.loop.after ∙ c.before.loop.invariant.1
 
 pub single-underscores-spec : {M : Type 1} → statement M
 single-underscores-spec =

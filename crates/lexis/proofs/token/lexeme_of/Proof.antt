@@ -5,14 +5,14 @@ use native.Mathlib.Omega.{arith}
 use borrow.Author.Rules.{rules}
 use borrow.Author.Tests.{eq-eqb}
 use lib.Seq.{length-take-le}
-use Rattle.lexis.specs.Token.{lexemeOf}
+use Rattle.lexis.specs.Token.{lexeme_of}
 use Rattle.lexis.proofs.Bounds.{run-within}
-use Rattle.lexis.proofs.Lexemes.{lexeme-run, lexeme-mark, lexeme-none}
+use Rattle.lexis.proofs.Lexemes.{lexeme_run, lexeme_mark, lexeme_none}
 use Rattle.lexis.proofs.token.lexeme_of.Statement.{statement}
 use Rattle.lexis.proofs.token.lexeme_of.Tie as tie
 
 returns : tie.Need-returns
-unfolding lexemeOf
+unfolding lexeme_of
 returns c = rw (eq-eqb _ _ c.if1.true)
 
 shared-slice-read-class-of : tie.Need-shared-slice-read-class-of
@@ -46,13 +46,13 @@ mark-of-requires : tie.Need-mark-of-requires
 mark-of-requires c κs = search rules
 
 returns-2 : tie.Need-returns-2
-returns-2 c = c.run-token.ensures ∙ rw (c.before.shape_of.ensures, c.before.before.before.run_length.ensures) (lexeme-run c.before.before.before.before.before.before.before.before.before.args.text.now c.before.before.before.before.before.before.before.if1.false c.before.before.before.before.before.class_of.result c.before.before.before.before.before.class_of.ensures c.before.before.before.before.match.keys1)
+returns-2 c = c.run-token.ensures ∙ rw (c.before.shape_of.ensures, c.before.before.before.run_length.ensures) (lexeme_run c.before.before.before.before.before.before.before.before.before.args.text.now c.before.before.before.before.before.before.before.if1.false c.before.before.before.before.before.class_of.result c.before.before.before.before.before.class_of.ensures c.before.before.before.before.match.keys1)
 
 returns-3 : tie.Need-returns-3
-returns-3 c = c.mark_of.ensures ∙ rw c.before.byte_at.ensures (lexeme-mark c.before.before.before.before.before.before.before.before.before.args.text.now c.before.before.before.before.before.before.before.if1.false c.before.before.before.before.before.class_of.result c.before.before.before.before.before.class_of.ensures c.before.before.before.enum_told.given.1)
+returns-3 c = c.mark_of.ensures ∙ rw c.before.byte_at.ensures (lexeme_mark c.before.before.before.before.before.before.before.before.before.args.text.now c.before.before.before.before.before.before.before.if1.false c.before.before.before.before.before.class_of.result c.before.before.before.before.before.class_of.ensures c.before.before.before.enum_told.given.1)
 
 returns-4 : tie.Need-returns-4
-returns-4 c = lexeme-none c.before.before.before.before.before.args.text.now c.before.before.before.if1.false c.before.class_of.result c.before.class_of.ensures c.match.keys3
+returns-4 c = lexeme_none c.before.before.before.before.before.args.text.now c.before.before.before.if1.false c.before.class_of.result c.before.class_of.ensures c.match.keys3
 
 pub lexeme-of-spec : {M : Type 1} → statement M
 lexeme-of-spec =

@@ -5,8 +5,8 @@ use mathlib.Core.Bool.{false}
 use native.Mathlib.Omega.{arith}
 use borrow.Author.Rules.{rules}
 use Rattle.laws.proofs.Lists.{rest}
-use Rattle.lexis.specs.Blank.{skipFrom}
-use Rattle.lexis.specs.Token.{lexemeOf, placed_at, scanOf}
+use Rattle.lexis.specs.Blank.{skip_from}
+use Rattle.lexis.specs.Token.{lexeme_of, placed_at, scan_of}
 use Rattle.lexis.specs.declared.blank.Skipped.TheVariants.{To, Refused}
 use Rattle.lexis.proofs.Bounds.{place_of, skip-within}
 use Rattle.lexis.proofs.token.next.Statement.{statement}
@@ -20,12 +20,12 @@ enum-known-n c = search rules
 
 sub-lexeme-of : tie.Need-overflow-sub-lexeme-of
 sub-lexeme-of c =
-    let e : skipFrom false 0 c.before.before.before.before.before.args.text.now ≡ To c.before.n.given.0.0 = sym c.before.before.before.skip.ensures ∙ c.before.n.given.1 in
+    let e : skip_from false 0 c.before.before.before.before.before.args.text.now ≡ To c.before.n.given.0.0 = sym c.before.before.before.skip.ensures ∙ c.before.n.given.1 in
     omega (arith, skip-within false 0 c.before.before.before.before.before.args.text.now, ap place_of e)
 
 part-lexeme-of-start : tie.Need-slice-bounds-lexeme-of-start
 part-lexeme-of-start c =
-    let e : skipFrom false 0 c.before.before.before.before.before.args.text.now ≡ To c.before.n.given.0.0 = sym c.before.before.before.skip.ensures ∙ c.before.n.given.1 in
+    let e : skip_from false 0 c.before.before.before.before.before.args.text.now ≡ To c.before.n.given.0.0 = sym c.before.before.before.skip.ensures ∙ c.before.n.given.1 in
     omega (arith, skip-within false 0 c.before.before.before.before.before.args.text.now, ap place_of e)
 
 part-lexeme-of-end : tie.Need-slice-bounds-lexeme-of-end
@@ -41,15 +41,15 @@ enum-known-n-2 : tie.Need-enum-known-n-2
 enum-known-n-2 c = search rules
 
 returns : tie.Need-returns
-unfolding scanOf
+unfolding scan_of
 returns c =
-    let e : skipFrom false 0 c.before.before.before.before.before.before.before.before.args.text.now ≡ To c.before.before.before.before.n.given.0.0 = sym c.before.before.before.before.before.before.skip.ensures ∙ c.before.before.before.before.n.given.1 in
-    c.placed.ensures ∙ ap (placed_at c.before.before.before.before.n.given.0.0) (c.before.lexeme-of.ensures ∙ ap lexemeOf (rest c.before.before.before.before.before.before.before.before.args.text.now c.before.before.before.before.n.given.0.0)) ∙ rw e
+    let e : skip_from false 0 c.before.before.before.before.before.before.before.before.args.text.now ≡ To c.before.before.before.before.n.given.0.0 = sym c.before.before.before.before.before.before.skip.ensures ∙ c.before.before.before.before.n.given.1 in
+    c.placed.ensures ∙ ap (placed_at c.before.before.before.before.n.given.0.0) (c.before.lexeme-of.ensures ∙ ap lexeme_of (rest c.before.before.before.before.before.before.before.before.args.text.now c.before.before.before.before.n.given.0.0)) ∙ rw e
 
 returns-2 : tie.Need-returns-2
-unfolding scanOf
+unfolding scan_of
 returns-2 c =
-    let e : skipFrom false 0 c.before.before.before.before.before.args.text.now ≡ Refused c.before.n2.given.0.0 = sym c.before.before.before.skip.ensures ∙ c.before.n2.given.1 in
+    let e : skip_from false 0 c.before.before.before.before.before.args.text.now ≡ Refused c.before.n2.given.0.0 = sym c.before.before.before.skip.ensures ∙ c.before.n2.given.1 in
     rw e
 
 pub next-spec : {M : Type 1} → statement M

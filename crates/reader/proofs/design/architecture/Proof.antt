@@ -5,9 +5,9 @@ use native.Mathlib.Omega.{arith}
 use borrow.Author.Rules.{rules}
 use mathlib.Core.List.{[]}
 use Rattle.words.specs.Token.{ARCHITECTURE, OF, IS}
-use Rattle.syntax.proofs.Rows.{architecturePart}
+use Rattle.syntax.proofs.Rows.{architecture_part}
 use Rattle.reading.proofs.Generic.{ready-word, ready-reads, ready-named}
-use Rattle.reader.proofs.Designs.{look-span, architecture-read}
+use Rattle.reader.proofs.Designs.{look_span, architecture_read}
 use Rattle.reader.proofs.design.architecture.Statement.{statement}
 use Rattle.reader.proofs.design.architecture.Tie as tie
 
@@ -36,16 +36,16 @@ process-list-requires : tie.Need-process-list-requires
 process-list-requires c κs = ready-reads (ready-word (ready-reads (ready-word (ready-named (ready-word c.before.before.before.before.before.before.before.before.before.before.before.before.before.before.before.before.requires.0 ARCHITECTURE c.before.before.before.before.before.before.before.before.before.before.before.before.before.word.ensures) (c.before.before.before.before.before.before.before.before.before.before.before.name.ensures _ [])) OF c.before.before.before.before.before.before.before.before.before.before.word2.ensures) (c.before.before.before.before.before.before.before.before.of-name.ensures [])) IS c.before.before.before.before.before.before.before.word3.ensures) c.before.before.before.before.declarations.ensures
 
 closing-requires : tie.Need-closing-requires
-closing-requires c κs = (ready-reads (ready-reads (ready-word (ready-reads (ready-word (ready-named (ready-word c.before.before.before.before.before.before.before.before.before.before.before.before.before.before.before.before.before.before.before.before.requires.0 ARCHITECTURE c.before.before.before.before.before.before.before.before.before.before.before.before.before.before.before.before.before.word.ensures) (c.before.before.before.before.before.before.before.before.before.before.before.before.before.before.before.name.ensures _ [])) OF c.before.before.before.before.before.before.before.before.before.before.before.before.before.before.word2.ensures) (c.before.before.before.before.before.before.before.before.before.before.before.before.of-name.ensures [])) IS c.before.before.before.before.before.before.before.before.before.before.before.word3.ensures) c.before.before.before.before.before.before.before.before.declarations.ensures) c.before.before.before.process-list.ensures, look-span (ready-word c.before.before.before.before.before.before.before.before.before.before.before.before.before.before.before.before.before.before.before.before.requires.0 ARCHITECTURE c.before.before.before.before.before.before.before.before.before.before.before.before.before.before.before.before.before.word.ensures).inside c.before.before.before.before.before.before.before.before.before.before.before.before.before.before.before.before.peek.ensures, omega arith)
+closing-requires c κs = (ready-reads (ready-reads (ready-word (ready-reads (ready-word (ready-named (ready-word c.before.before.before.before.before.before.before.before.before.before.before.before.before.before.before.before.before.before.before.before.requires.0 ARCHITECTURE c.before.before.before.before.before.before.before.before.before.before.before.before.before.before.before.before.before.word.ensures) (c.before.before.before.before.before.before.before.before.before.before.before.before.before.before.before.name.ensures _ [])) OF c.before.before.before.before.before.before.before.before.before.before.before.before.before.before.word2.ensures) (c.before.before.before.before.before.before.before.before.before.before.before.before.of-name.ensures [])) IS c.before.before.before.before.before.before.before.before.before.before.before.word3.ensures) c.before.before.before.before.before.before.before.before.declarations.ensures) c.before.before.before.process-list.ensures, look_span (ready-word c.before.before.before.before.before.before.before.before.before.before.before.before.before.before.before.before.before.before.before.before.requires.0 ARCHITECTURE c.before.before.before.before.before.before.before.before.before.before.before.before.before.before.before.before.before.word.ensures).inside c.before.before.before.before.before.before.before.before.before.before.before.before.before.before.before.before.peek.ensures, omega arith)
 
 finished-requires : tie.Need-finished-requires
-finished-requires c κs = (c.closing.ensures architecturePart refl []).inside
+finished-requires c κs = (c.closing.ensures architecture_part refl []).inside
 
 same_length : tie.Need-same-length
 same_length c = search rules
 
 returns : tie.Need-returns
-returns c = architecture-read c.before.before.before.before.before.before.before.before.before.before.before.before.before.before.before.before.before.before.before.before.before.before.requires.0.inside c.before.before.before.before.before.before.before.before.before.before.before.before.before.before.before.before.before.before.before.word.ensures c.before.before.before.before.before.before.before.before.before.before.before.before.before.before.before.before.before.before.peek.ensures (c.before.before.before.before.before.before.before.before.before.before.before.before.before.before.before.before.before.name.ensures _ _) c.before.before.before.before.before.before.before.before.before.before.before.before.before.before.before.before.word2.ensures (c.before.before.before.before.before.before.before.before.before.before.before.before.before.before.of-name.ensures _) c.before.before.before.before.before.before.before.before.before.before.before.before.before.word3.ensures c.before.before.before.before.before.before.before.before.before.before.declarations.ensures c.before.before.before.before.before.process-list.ensures (c.before.closing.ensures architecturePart refl _) c.finished.ensures
+returns c = architecture_read c.before.before.before.before.before.before.before.before.before.before.before.before.before.before.before.before.before.before.before.before.before.before.requires.0.inside c.before.before.before.before.before.before.before.before.before.before.before.before.before.before.before.before.before.before.before.word.ensures c.before.before.before.before.before.before.before.before.before.before.before.before.before.before.before.before.before.before.peek.ensures (c.before.before.before.before.before.before.before.before.before.before.before.before.before.before.before.before.before.name.ensures _ _) c.before.before.before.before.before.before.before.before.before.before.before.before.before.before.before.before.word2.ensures (c.before.before.before.before.before.before.before.before.before.before.before.before.before.before.of-name.ensures _) c.before.before.before.before.before.before.before.before.before.before.before.before.before.word3.ensures c.before.before.before.before.before.before.before.before.before.before.declarations.ensures c.before.before.before.before.before.process-list.ensures (c.before.closing.ensures architecture_part refl _) c.finished.ensures
 
 pub architecture-spec : {M : Type 1} → statement M
 architecture-spec =

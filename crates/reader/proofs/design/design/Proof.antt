@@ -5,9 +5,9 @@ use native.Mathlib.Omega.{arith}
 use borrow.Author.Rules.{rules}
 use mathlib.Core.List.{[]}
 use Rattle.words.specs.Token.{ENTITY, IS, END}
-use Rattle.syntax.proofs.Rows.{entityPart}
+use Rattle.syntax.proofs.Rows.{entity_part}
 use Rattle.reading.proofs.Generic.{ready-word, ready-reads, ready-named}
-use Rattle.reader.proofs.Designs.{look-span, begins, design-read}
+use Rattle.reader.proofs.Designs.{look_span, begins, design-read}
 use Rattle.reader.proofs.design.design.Statement.{statement}
 use Rattle.reader.proofs.design.design.Tie as tie
 
@@ -27,16 +27,16 @@ word-requires-3 : tie.Need-word-requires-3
 word-requires-3 c κs = (ready-word (ready-named (ready-word (begins c.before.before.before.before.before.before.requires) ENTITY c.before.before.before.word.ensures) (c.before.name.ensures _ [])) IS c.word2.ensures).inside
 
 closing-requires : tie.Need-closing-requires
-closing-requires c κs = (ready-word (ready-word (ready-named (ready-word (begins c.before.before.before.before.before.before.before.before.requires) ENTITY c.before.before.before.before.before.word.ensures) (c.before.before.before.name.ensures _ [])) IS c.before.before.word2.ensures) END c.before.word3.ensures, look-span (ready-word (begins c.before.before.before.before.before.before.before.before.requires) ENTITY c.before.before.before.before.before.word.ensures).inside c.before.before.before.before.peek.ensures, omega arith)
+closing-requires c κs = (ready-word (ready-word (ready-named (ready-word (begins c.before.before.before.before.before.before.before.before.requires) ENTITY c.before.before.before.before.before.word.ensures) (c.before.before.before.name.ensures _ [])) IS c.before.before.word2.ensures) END c.before.word3.ensures, look_span (ready-word (begins c.before.before.before.before.before.before.before.before.requires) ENTITY c.before.before.before.before.before.word.ensures).inside c.before.before.before.before.peek.ensures, omega arith)
 
 architecture-requires : tie.Need-architecture-requires
-architecture-requires c κs = (ready-reads (ready-word (ready-word (ready-named (ready-word (begins c.before.before.before.before.before.before.before.before.before.before.before.requires) ENTITY c.before.before.before.before.before.before.before.before.word.ensures) (c.before.before.before.before.before.before.name.ensures _ [])) IS c.before.before.before.before.before.word2.ensures) END c.before.before.before.before.word3.ensures) (c.before.before.closing.ensures entityPart refl []), look-span (ready-word (begins c.before.before.before.before.before.before.before.before.before.before.before.requires) ENTITY c.before.before.before.before.before.before.before.before.word.ensures).inside c.before.before.before.before.before.before.before.peek.ensures)
+architecture-requires c κs = (ready-reads (ready-word (ready-word (ready-named (ready-word (begins c.before.before.before.before.before.before.before.before.before.before.before.requires) ENTITY c.before.before.before.before.before.before.before.before.word.ensures) (c.before.before.before.before.before.before.name.ensures _ [])) IS c.before.before.before.before.before.word2.ensures) END c.before.before.before.before.word3.ensures) (c.before.before.closing.ensures entity_part refl []), look_span (ready-word (begins c.before.before.before.before.before.before.before.before.before.before.before.requires) ENTITY c.before.before.before.before.before.before.before.before.word.ensures).inside c.before.before.before.before.before.before.before.peek.ensures)
 
 same_length : tie.Need-same-length
 same_length c = search rules
 
 returns : tie.Need-returns
-returns c = design-read c.before.before.before.before.before.before.before.before.before.before.before.word.ensures c.before.before.before.before.before.before.before.before.before.before.peek.ensures (c.before.before.before.before.before.before.before.before.before.name.ensures _ _) c.before.before.before.before.before.before.before.before.word2.ensures c.before.before.before.before.before.before.before.word3.ensures (c.before.before.before.before.before.closing.ensures entityPart refl _) c.before.before.architecture.ensures
+returns c = design-read c.before.before.before.before.before.before.before.before.before.before.before.word.ensures c.before.before.before.before.before.before.before.before.before.before.peek.ensures (c.before.before.before.before.before.before.before.before.before.name.ensures _ _) c.before.before.before.before.before.before.before.before.word2.ensures c.before.before.before.before.before.before.before.word3.ensures (c.before.before.before.before.before.closing.ensures entity_part refl _) c.before.before.architecture.ensures
 
 pub design-spec : {M : Type 1} → statement M
 design-spec =

@@ -4,7 +4,7 @@ use native.Mathlib.Omega.{arith}
 use borrow.Author.Rules.{rules}
 use Rattle.look.proofs.Looks.{seen-there}
 use Rattle.reading.proofs.Generic.{reads-off}
-use Rattle.reader.proofs.Processes.{beginning-plain, beginning-is}
+use Rattle.reader.proofs.Processes.{beginning-plain, beginning_is}
 use Rattle.reader.proofs.process.beginning.Statement.{statement}
 use Rattle.reader.proofs.process.beginning.Tie as tie
 
@@ -24,7 +24,7 @@ word-requires-2 : tie.Need-word-requires-2
 word-requires-2 c κs = (seen-there c.before.before.before.before.before.before.requires c.before.before.peek.ensures (λ z. omega (arith, c.if2.false, z))).inside
 
 returns-3 : tie.Need-returns-3
-returns-3 c = λ l v. beginning-is c.before.before.before.before.before.before.before.requires c.before.before.before.before.if1.false c.before.before.before.peek.ensures c.before.if2.false c.word2.ensures
+returns-3 c = λ l v. beginning_is c.before.before.before.before.before.before.before.requires c.before.before.before.before.if1.false c.before.before.before.peek.ensures c.before.if2.false c.word2.ensures
 
 pub beginning-spec : {M : Type 1} → statement M
 beginning-spec =

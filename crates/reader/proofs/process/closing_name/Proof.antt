@@ -3,7 +3,7 @@
 use native.Mathlib.Omega.{arith}
 use Rattle.look.proofs.Looks.{seen-there}
 use Rattle.reading.proofs.Generic.{reads-off, span}
-use Rattle.reader.proofs.Processes.{closing-none, closing-some}
+use Rattle.reader.proofs.Processes.{closing-none, closing_some}
 use Rattle.reader.proofs.process.closing_name.Statement.{statement}
 use Rattle.reader.proofs.process.closing_name.Tie as tie
 
@@ -28,7 +28,7 @@ word-requires-2 : tie.Need-word-requires-2
 word-requires-2 c κs = (seen-there c.before.before.before.before.before.before.before.before.requires.0.inside c.before.before.before.before.peek.ensures (λ z. omega (arith, c.before.before.if2.false, z))).inside
 
 returns-3 : tie.Need-returns-3
-returns-3 c = λ v. closing-some c.before.before.before.before.before.before.before.before.before.requires.0.inside c.before.before.before.before.before.before.if1.false c.before.before.before.before.before.peek.ensures c.before.before.before.if2.false c.before.close.ensures c.word2.ensures
+returns-3 c = λ v. closing_some c.before.before.before.before.before.before.before.before.before.requires.0.inside c.before.before.before.before.before.before.if1.false c.before.before.before.before.before.peek.ensures c.before.before.before.if2.false c.before.close.ensures c.word2.ensures
 
 pub closing-name-spec : {M : Type 1} → statement M
 closing-name-spec =

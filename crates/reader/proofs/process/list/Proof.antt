@@ -3,7 +3,7 @@
 use native.Mathlib.Omega.{arith}
 use borrow.Author.Rules.{rules}
 use Rattle.reading.proofs.Generic.{reads-off, ready-pass, ready-reads}
-use Rattle.reader.proofs.Processes.{list-none, list-some}
+use Rattle.reader.proofs.Processes.{list_none, list_some}
 use Rattle.reader.proofs.process.list.Statement.{statement}
 use Rattle.reader.proofs.process.list.Tie as tie
 
@@ -14,7 +14,7 @@ peek-requires : tie.Need-peek-requires
 peek-requires c κs = c.before.before.before.before.requires.inside
 
 returns-2 : tie.Need-returns-2
-returns-2 c = list-none c.before.before.before.before.before.before.before.requires.inside c.before.before.before.if1.false c.before.before.peek.ensures c.if2.true
+returns-2 c = list_none c.before.before.before.before.before.before.before.requires.inside c.before.before.before.if1.false c.before.before.peek.ensures c.if2.true
 
 listened-requires : tie.Need-listened-requires
 listened-requires c κs = ready-pass c.before.before.before.before.before.before.before.before.before.requires c.before.before.before.before.before.if1.false c.before.before.before.before.peek.ensures (λ z. omega (arith, c.before.before.if2.false, z))
@@ -26,7 +26,7 @@ same_length : tie.Need-same-length
 same_length c = search rules
 
 returns-3 : tie.Need-returns-3
-returns-3 c = list-some c.before.before.before.before.before.before.before.before.before.before.before.before.before.before.before.before.before.requires.inside c.before.before.before.before.before.before.before.before.before.before.before.before.before.if1.false c.before.before.before.before.before.before.before.before.before.before.before.before.peek.ensures c.before.before.before.before.before.before.before.before.before.before.if2.false c.before.before.before.before.before.before.before.listened.ensures c.before.before.more-listed.ensures
+returns-3 c = list_some c.before.before.before.before.before.before.before.before.before.before.before.before.before.before.before.before.before.requires.inside c.before.before.before.before.before.before.before.before.before.before.before.before.before.if1.false c.before.before.before.before.before.before.before.before.before.before.before.before.peek.ensures c.before.before.before.before.before.before.before.before.before.before.if2.false c.before.before.before.before.before.before.before.listened.ensures c.before.before.more-listed.ensures
 
 pub list-spec : {M : Type 1} → statement M
 list-spec =

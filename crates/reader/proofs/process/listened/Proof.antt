@@ -5,7 +5,7 @@ use borrow.Author.Rules.{rules}
 use Rattle.names.specs.Roles.{listens}
 use Rattle.reading.proofs.Generic.{reads-off, span}
 use Rattle.reader.proofs.Declarations.{name-unfit}
-use Rattle.reader.proofs.Processes.{listened-read}
+use Rattle.reader.proofs.Processes.{listened_read}
 use Rattle.reader.proofs.process.listened.Statement.{statement}
 use Rattle.reader.proofs.process.listened.Tie as tie
 
@@ -31,7 +31,7 @@ same_length : tie.Need-same-length
 same_length c = search rules
 
 returns-3 : tie.Need-returns-3
-returns-3 c = listened-read c.before.before.before.before.before.before.before.before.before.before.before.before.before.before.requires.inside c.before.before.before.before.before.before.before.before.before.before.if1.false c.before.before.before.before.before.before.before.before.before.peek.ensures c.before.before.before.before.before.before.before.if2.false c.before.before.before.before.before.listen.ensures.0 c.before.before.before.before.before.listen.ensures.1 c.before.before.wake.ensures
+returns-3 c = listened_read c.before.before.before.before.before.before.before.before.before.before.before.before.before.before.requires.inside c.before.before.before.before.before.before.before.before.before.before.if1.false c.before.before.before.before.before.before.before.before.before.peek.ensures c.before.before.before.before.before.before.before.if2.false c.before.before.before.before.before.listen.ensures.0 c.before.before.before.before.before.listen.ensures.1 c.before.before.wake.ensures
 
 pub listened-spec : {M : Type 1} → statement M
 listened-spec =

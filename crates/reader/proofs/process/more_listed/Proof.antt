@@ -7,16 +7,16 @@ use borrow.Author.Rules.{rules}
 use mathlib.Core.List.{List}
 use lib.ListN.{length}
 use Rattle.reading.specs.declared.Spot.{Spot}
-use Rattle.syntax.proofs.Rows.{moreListed}
+use Rattle.syntax.proofs.Rows.{more_listed}
 use Rattle.look.proofs.Looks.{seen-there}
-use Rattle.reading.specs.Inside.Reading.{Ready, Reads, whole, moreListedRoles, moreListedDraft}
+use Rattle.reading.specs.Inside.Reading.{Ready, Reads, whole, more_listed_roles, more_listed_draft}
 use Rattle.reading.proofs.Generic.{reads-off, ready-pass, ready-reads}
-use Rattle.reader.proofs.Processes.{listed-end, listed-comma}
+use Rattle.reader.proofs.Processes.{listed_end, listed_comma}
 use Rattle.reader.proofs.process.more_listed.Statement.{statement}
 use Rattle.reader.proofs.process.more_listed.Tie as tie
 
 abbrev invariant-loop : tie.invariant-loop
-invariant-loop text ledger₀ table₀ p₀ ledger table p = Ready 0 text p ledger × ((q : Spot) (l v : List ℕ) → Reads (whole moreListed moreListedRoles moreListedDraft) text 32 p q ledger l table v → Reads (whole moreListed moreListedRoles moreListedDraft) text 32 p₀ q ledger₀ l table₀ v) × (length table ≡ length table₀)
+invariant-loop text ledger₀ table₀ p₀ ledger table p = Ready 0 text p ledger × ((q : Spot) (l v : List ℕ) → Reads (whole more_listed more_listed_roles more_listed_draft) text 32 p q ledger l table v → Reads (whole more_listed more_listed_roles more_listed_draft) text 32 p₀ q ledger₀ l table₀ v) × (length table ≡ length table₀)
 
 abbrev decreases-loop : tie.decreases-loop
 decreases-loop text ledger₀ table₀ p₀ ledger table p = length text - p.at
@@ -34,7 +34,7 @@ same_length : tie.Need-same-length invariant-loop decreases-loop
 same_length c = search rules
 
 returns : tie.Need-returns invariant-loop decreases-loop
-returns c = c.before.before.before.before.before.before.loop.invariant.1 _ _ _ (listed-end c.before.before.before.before.before.before.loop.invariant.0.inside c.before.before.before.before.if1.true c.before.before.before.peek.ensures c.before.if2.true c.word.ensures)
+returns c = c.before.before.before.before.before.before.loop.invariant.1 _ _ _ (listed_end c.before.before.before.before.before.before.loop.invariant.0.inside c.before.before.before.before.if1.true c.before.before.before.peek.ensures c.before.if2.true c.word.ensures)
 
 listened-requires : tie.Need-listened-requires invariant-loop decreases-loop
 listened-requires c κs = ready-pass c.before.before.before.before.before.before.before.loop.invariant.0 c.before.before.before.before.before.if1.true c.before.before.before.before.peek.ensures (λ z. omega (arith, c.before.before.if2.false, z))
@@ -43,7 +43,7 @@ loop-less : tie.Need-loop-smaller invariant-loop decreases-loop
 loop-less c = let x = seen-there c.before.before.before.before.before.before.before.before.before.before.loop.invariant.0.inside c.before.before.before.before.before.before.before.peek.ensures (λ z. omega (arith, c.before.before.before.before.before.if2.false, z)) in omega (arith, x.after, x.some, c.before.before.listened.ensures.ahead, c.before.before.listened.ensures.inside)
 
 loop-again : tie.Need-loop-preserved invariant-loop decreases-loop
-loop-again c = (ready-reads (ready-pass c.before.before.before.before.before.before.before.before.before.before.loop.invariant.0 c.before.before.before.before.before.before.before.before.if1.true c.before.before.before.before.before.before.before.peek.ensures (λ z. omega (arith, c.before.before.before.before.before.if2.false, z))) c.before.before.listened.ensures, (λ q l v d. c.before.before.before.before.before.before.before.before.before.before.loop.invariant.1 q l v (listed-comma c.before.before.before.before.before.before.before.before.before.before.loop.invariant.0.inside c.before.before.before.before.before.before.before.before.if1.true c.before.before.before.before.before.before.before.peek.ensures c.before.before.before.before.before.if2.false c.before.before.listened.ensures d)), search rules)
+loop-again c = (ready-reads (ready-pass c.before.before.before.before.before.before.before.before.before.before.loop.invariant.0 c.before.before.before.before.before.before.before.before.if1.true c.before.before.before.before.before.before.before.peek.ensures (λ z. omega (arith, c.before.before.before.before.before.if2.false, z))) c.before.before.listened.ensures, (λ q l v d. c.before.before.before.before.before.before.before.before.before.before.loop.invariant.1 q l v (listed_comma c.before.before.before.before.before.before.before.before.before.before.loop.invariant.0.inside c.before.before.before.before.before.before.before.before.if1.true c.before.before.before.before.before.before.before.peek.ensures c.before.before.before.before.before.if2.false c.before.before.listened.ensures d)), search rules)
 
 same-length-2 : tie.Need-same-length-2 invariant-loop decreases-loop
 same-length-2 c = search rules

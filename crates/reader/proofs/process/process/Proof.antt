@@ -7,7 +7,7 @@ use Rattle.words.specs.Token.{COLON, PROCESS}
 use Rattle.look.proofs.Looks.{seen-there}
 use Rattle.reading.proofs.Words.{worded}
 use Rattle.reading.proofs.Generic.{span, ready-token, ready-word}
-use Rattle.reader.proofs.Processes.{ready-open, ready-opened, process-labelled, process-plain}
+use Rattle.reader.proofs.Processes.{ready_open, ready-opened, process-labelled, process-plain}
 use Rattle.reader.proofs.process.process.Statement.{statement}
 use Rattle.reader.proofs.process.process.Tie as tie
 
@@ -36,10 +36,10 @@ returns c =
     )
 
 opening-requires-2 : tie.Need-opening-requires-2
-opening-requires-2 c κs = ready-open c.before.before.before.before.before.requires.0
+opening-requires-2 c κs = ready_open c.before.before.before.before.before.requires.0
 
 body-requires-2 : tie.Need-body-requires-2
-body-requires-2 c κs = (ready-opened (ready-open c.before.before.before.before.before.before.before.before.requires.0) (c.before.before.opening2.ensures []), record { rising = omega arith; inside = omega arith })
+body-requires-2 c κs = (ready-opened (ready_open c.before.before.before.before.before.before.before.before.requires.0) (c.before.before.opening2.ensures []), record { rising = omega arith; inside = omega arith })
 
 same-length-2 : tie.Need-same-length-2
 same-length-2 c = search rules

@@ -5,13 +5,13 @@ use mathlib.Core.Path.{◌≡◌}
 use borrow.Author.Rules.{rules}
 use lib.ListN.{length, drop}
 use Rattle.words.specs.Unit.{longest}
-use Rattle.words.specs.Integer.{valueFrom, value_of}
-use Rattle.words.proofs.Integers.{value_on, value-large, value-small}
+use Rattle.words.specs.Integer.{value_from, value_of}
+use Rattle.words.proofs.Integers.{value_on, value_large, value-small}
 use Rattle.words.proofs.integer.amount_of.Statement.{statement}
 use Rattle.words.proofs.integer.amount_of.Tie as tie
 
 abbrev invariant-loop : tie.invariant-loop
-invariant-loop run sum₀ i₀ sum i = (i ≤ length run) × (valueFrom sum (drop i run) ≡ value_of run) × (sum ≤ longest)
+invariant-loop run sum₀ i₀ sum i = (i ≤ length run) × (value_from sum (drop i run) ≡ value_of run) × (sum ≤ longest)
 
 abbrev decreases-loop : tie.decreases-loop
 decreases-loop run sum₀ i₀ sum i = length run - i
@@ -32,7 +32,7 @@ add-sum : tie.Need-overflow-add-sum invariant-loop decreases-loop
 add-sum c = search rules
 
 returns : tie.Need-returns invariant-loop decreases-loop
-returns c = value-large c.before.before.before.before.before.before.args.run.now _ (c.before.before.before.before.loop.i + 1) (value_on c.before.before.before.before.before.before.args.run.now c.before.before.before.before.loop.sum c.before.before.before.before.loop.i c.before.before.before.before.loop.invariant.1 c.before.before.before.loop-test.true _ c.before.digit.ensures.0) c.if1.true
+returns c = value_large c.before.before.before.before.before.before.args.run.now _ (c.before.before.before.before.loop.i + 1) (value_on c.before.before.before.before.before.before.args.run.now c.before.before.before.before.loop.sum c.before.before.before.before.loop.i c.before.before.before.before.loop.invariant.1 c.before.before.before.loop-test.true _ c.before.digit.ensures.0) c.if1.true
 
 add-i : tie.Need-overflow-add-i invariant-loop decreases-loop
 add-i c = search rules

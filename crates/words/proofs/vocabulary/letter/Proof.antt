@@ -3,7 +3,7 @@
 use native.Mathlib.Omega.{arith}
 use borrow.Author.Rules.{rules}
 use Rattle.laws.proofs.Ranges.{within-inside, within-below, within-above}
-use Rattle.words.specs.Inside.Codes.{letterOf}
+use Rattle.words.specs.Inside.Codes.{letter_of}
 use Rattle.words.proofs.vocabulary.letter.Statement.{statement}
 use Rattle.words.proofs.vocabulary.letter.Tie as tie
 
@@ -20,23 +20,23 @@ cast-result-2 : tie.Need-overflow-cast-result-2
 cast-result-2 c = search rules
 
 returns : tie.Need-returns
-unfolding letterOf
+unfolding letter_of
 returns c = (rw (within-inside 65 90 c.before.before.args.byte (omega arith) (omega arith)), omega arith)
 
 returns-2 : tie.Need-returns-2
-unfolding letterOf
+unfolding letter_of
 returns-2 c = (rw (within-above 65 90 c.before.before.before.before.args.byte (omega arith), within-inside 97 122 c.before.before.before.before.args.byte (omega arith) (omega arith)), omega arith)
 
 returns-3 : tie.Need-returns-3
-unfolding letterOf
+unfolding letter_of
 returns-3 c = (rw (within-below 65 90 c.before.args.byte (omega arith), within-below 97 122 c.before.args.byte (omega arith)), omega arith)
 
 returns-4 : tie.Need-returns-4
-unfolding letterOf
+unfolding letter_of
 returns-4 c = (rw (within-above 65 90 c.before.before.before.args.byte (omega arith), within-below 97 122 c.before.before.before.args.byte (omega arith)), omega arith)
 
 returns-5 : tie.Need-returns-5
-unfolding letterOf
+unfolding letter_of
 returns-5 c = (rw (within-above 65 90 c.before.before.before.before.args.byte (omega arith), within-above 97 122 c.before.before.before.before.args.byte (omega arith)), omega arith)
 
 pub letter-spec : {M : Type 1} → statement M
