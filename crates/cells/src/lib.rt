@@ -1,4 +1,6 @@
 // The cells of a session: posts, takes, and what comes next. Everything that a run changes stands in one array.
+#![tactic(auto)]
+
 ghost use Rattle.std.specs.Prelude.{◌≡◌, true, false, ℕ, ◌+◌, ◌*◌, ◌/◌, ◌^◌, ◌≤◌, ◌<◌, length, get_or};
 ghost use Rattle.cells.specs.Cells.{truth, pending_of, pendings, Fit, Posted, Reached, Took, ComesNext};
 ghost use Rattle.cells.specs.Inside.Moves.{Cut, Shifted, Dropped, Nearer, Seen};

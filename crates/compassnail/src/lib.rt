@@ -1,4 +1,6 @@
 // The C library: plain functions on bytes, 64-bit words and numbers, thin over the proved ones. include/compassnail.h says the same for C.
+#![tactic(auto)]
+
 ghost use Rattle.std.specs.Prelude.{◌≡◌, ◌+◌, ◌*◌, ◌≤◌, length};
 ghost use Rattle.compassnail.specs.Codes.{ReadsInC, HeadsInC, code_of, report_after, Small, StartsInC, AdvancesInC};
 

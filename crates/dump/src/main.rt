@@ -1,4 +1,6 @@
 // The dump program: a text on standard input, a stop as two argument words, and its value change dump on standard output.
+#![tactic(auto)]
+
 ghost use Rattle.std.specs.Prelude.{◌≤◌};
 
 use heading::{Headed, header};

@@ -1,4 +1,6 @@
 // Words of a table, written while its text is read. Where no word stands nothing is written, so a first run over a short table leaves it.
+#![tactic(auto)]
+
 ghost use Rattle.std.specs.Prelude.{◌≡◌, ◌≤◌, length, set};
 ghost use Rattle.emission.specs.Inside.Draft.{placed, following, jump_word, aimed, bit_of, with_bit, waking, ended, begun, cleared, binary_kind};
 

@@ -1,4 +1,6 @@
 // Expressions. Expression, factor and primary call each other in a cycle; the nesting room falls with each bracket.
+#![tactic(auto)]
+
 ghost use Rattle.std.specs.Prelude.{ℕ, ◌≤◌, ◌<◌, ◌≡◌, List, length};
 ghost use Rattle.syntax.proofs.Rows.{a_primary, a_factor};
 ghost use Rattle.names.specs.Roles.{primary_roles, factor_roles};

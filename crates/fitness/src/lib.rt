@@ -1,4 +1,6 @@
 // Whether words hold a fit table.
+#![tactic(auto)]
+
 pub mod drivers;
 pub mod heights;
 pub mod kinds;

@@ -1,5 +1,7 @@
 // Tries tables and sessions that are made by hand. Each line of its standard input has 29 bytes: a letter, a space, five digits, a
 // space, twenty digits and LF. tests/fitness/reference.py says what the letters mean, and writes the lines and the expected answers.
+#![tactic(auto)]
+
 ghost use Rattle.std.specs.Prelude.{◌≤◌, length};
 
 use fitness::fit_table;

@@ -1,4 +1,6 @@
 // Whether words hold a session that is fit for a table.
+#![tactic(auto)]
+
 ghost use Rattle.std.specs.Prelude.{◌≡◌, ◌+◌, ◌≤◌, ◌<◌, length, get_or};
 ghost use Rattle.laws.specs.Decides.{Decides};
 ghost use Rattle.words.specs.Unit.{longest};

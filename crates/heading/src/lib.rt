@@ -1,4 +1,6 @@
 // The dump's header of a text, written to a lent buffer.
+#![tactic(auto)]
+
 ghost use Rattle.std.specs.Prelude.{◌∷◌, [], ◌+◌, ◌≤◌, ◌<◌, length};
 ghost use Rattle.words.specs.Vocabulary.{lower as lowerCase};
 ghost use Rattle.rules.specs.Sizes.{buffer_bytes};

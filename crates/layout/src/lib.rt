@@ -1,1 +1,2 @@
 // A table and a session in words, as definitions and theorems. It has no code of its own: see specs/ and proofs/.
+#![tactic(auto)]

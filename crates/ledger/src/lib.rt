@@ -1,4 +1,6 @@
 // Refusals 5 to 10, judged token by token in one lent array of words: each function judges one token in its role. The first refusal stays.
+#![tactic(auto)]
+
 pub mod shelf;
 
 ghost use Rattle.std.specs.Prelude.{◌≡◌, not, List, ℕ, ◌<◌, ◌≤◌, get_or};

@@ -1,4 +1,6 @@
 // What the benchmark of the scan calls from C.
+#![tactic(auto)]
+
 ghost use Rattle.std.specs.Prelude.{◌≤◌};
 
 use lexis::token::{Kind, Refusal, Scan, first_refused, next};

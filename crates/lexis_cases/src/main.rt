@@ -1,5 +1,7 @@
 // Runs the cases of its standard input, and prints a line for each. A case is a letter that says what is done, four digits for
 // the length of its text, LF, the text, and LF.
+#![tactic(auto)]
+
 mod say;
 mod scan;
 mod word;

@@ -1,4 +1,6 @@
 // The token at a place of the text, as a number with the place where it starts and the place where it ends.
+#![tactic(auto)]
+
 ghost use Rattle.std.specs.Prelude.{◌≡◌, ◌<◌, ◌≤◌, length};
 ghost use Rattle.look.specs.Inside.Looks.{kind_of, look_of, unit_of};
 

@@ -1,4 +1,6 @@
 // Plays a table to standard output: its start, and advances up to a stop. What a run writes is gathered and written in large pieces.
+#![tactic(auto)]
+
 ghost use Rattle.std.specs.Prelude.{◌≡◌, ◌≤◌, length};
 ghost use Rattle.layout.specs.TableWords.{FitTableWords};
 ghost use Rattle.cells.specs.Cells.{FitFor};

@@ -1,4 +1,6 @@
 // What the programs share: their stop words, and the line of a refusal.
+#![tactic(auto)]
+
 ghost use Rattle.program.specs.Given.{InTime};
 
 use libc::STDOUT_FILENO;

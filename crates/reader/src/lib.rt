@@ -1,4 +1,6 @@
 // A text read where it lies: refusals 1 to 11, and the words of its table.
+#![tactic(auto)]
+
 pub mod declaration;
 pub mod design;
 pub mod process;

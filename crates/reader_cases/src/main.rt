@@ -1,5 +1,7 @@
 // Reads the texts of its standard input, and prints a line for each: its refusal, or the numbers of its signals, processes and
 // instructions. tests/texts/README.md says how the texts stand there, and where the expected lines come from.
+#![tactic(auto)]
+
 ghost use Rattle.std.specs.Prelude.{◌≤◌, ◌<◌, length};
 
 use libc::{STDIN_FILENO, STDOUT_FILENO};

@@ -1,4 +1,6 @@
 // A word or mark read at a spot of the text.
+#![tactic(auto)]
+
 ghost use Rattle.std.specs.Prelude.{◌≡◌, ◌≤◌, length};
 ghost use Rattle.reading.specs.Inside.Spots.{word_of};
 

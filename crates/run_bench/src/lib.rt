@@ -1,4 +1,6 @@
 // What the benchmark of the run calls from C: in each answer the time after the call, or 0 where it did not move.
+#![tactic(auto)]
+
 ghost use Rattle.std.specs.Prelude.{◌≤◌, length};
 ghost use Rattle.layout.specs.TableWords.{FitTableWords};
 ghost use Rattle.cells.specs.Cells.{FitFor};

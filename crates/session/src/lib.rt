@@ -1,4 +1,6 @@
 // A session, and the run of a start and of an advance: on its cells in place, and on lent words.
+#![tactic(auto)]
+
 ghost use Rattle.std.specs.Prelude.{◌≡◌, ℕ, ◌≤◌, ◌<◌, length};
 ghost use Rattle.rules.specs.Calls.{start, advance};
 ghost use Rattle.table.specs.Table.{runners};

@@ -1,4 +1,6 @@
 // Statements. The nesting room falls with each `if`.
+#![tactic(auto)]
+
 ghost use Rattle.std.specs.Prelude.{◌≡◌, true, List, ℕ, ◌≤◌, length};
 ghost use Rattle.syntax.proofs.Rows.{in_then};
 ghost use Rattle.emission.specs.Inside.Draft.{otherwise_draft};

@@ -1,4 +1,6 @@
 // The stop words of a program: an integer and a unit, as in a text.
+#![tactic(auto)]
+
 ghost use Rattle.std.specs.Prelude.{◌≡◌};
 ghost use Rattle.stop.specs.Stop.{unit_of, stop_of};
 

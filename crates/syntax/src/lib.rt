@@ -1,1 +1,2 @@
 // The grammar of a text as definitions and theorems. It has no code of its own: see specs/ and proofs/.
+#![tactic(auto)]

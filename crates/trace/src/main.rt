@@ -1,4 +1,6 @@
 // The trace program: given what the dump program is given, it prints a line for each call, with its bytes, time, cycles and steps.
+#![tactic(auto)]
+
 mod say;
 
 ghost use Rattle.std.specs.Prelude.{◌≡◌, false, ◌≤◌, length};
