@@ -134,7 +134,7 @@ decides (r ∷ rs) y (p ∷ ps) l = go (judge y r p) (one_token (faults y r) p (
         (record {
           applies = f.applies;
           lower_not = f.lower_not;
-          earlier_not = λ j. elim j [ zero ↦ λ m i. clear_none (faults y r) c m | suc i ↦ λ m h. f.earlier_not i m (omega arith) ];
+          earlier_not = λ j. elim j as (λ j. (m : ℕ) → j < suc k → AppliesFrom y (r ∷ rs) j m → ⊥) [ zero ↦ λ m i. clear_none (faults y r) c m | suc i ↦ λ m h. f.earlier_not i m (omega arith) ];
         })
 
     go : (j : Judgement) → OneToken (faults y r) p (next y r) j → Decides (next y r) rs ps (judged (next y r) rs ps)

@@ -38,18 +38,18 @@ formula_exists n (constant b) is h a = (tt, a)
 formula_exists n (negated e) is h a = formula_exists n e _ h (tt, a)
 formula_exists n (combined o e f) is h a = formula_exists n e _ h.0 (formula_exists n f _ h.1 (tt, a))
 
-code-exists : (n x : ℕ) (ss : Actions) (is : List Instruction) → Keeps n ss → AllExist n is → AllExist n (code x ss is)
+code-exists : (n : ℕ) (ss : Actions) (x : ℕ) (is : List Instruction) → Keeps n ss → AllExist n is → AllExist n (code x ss is)
 unfolding Keeps AllExist code
-code-exists n x done is h a = a
-code-exists n x (assign k e d ss) is h a = formula_exists n e _ h.3 ((h.0, h.1), code-exists n _ ss is h.4 a)
-code-exists n x (branch e p q ss) is h a =
-    formula_exists n e _ h.1 (tt, code-exists n _ p _ h.2 (tt, code-exists n _ q _ h.3 (code-exists n _ ss is h.4 a)))
-code-exists n x (null ss) is h a = code-exists n x ss is h a
+code-exists n done x is h a = a
+code-exists n (assign k e d ss) x is h a = formula_exists n e _ h.3 ((h.0, h.1), code-exists n ss _ is h.4 a)
+code-exists n (branch e p q ss) x is h a =
+    formula_exists n e _ h.1 (tt, code-exists n p _ _ h.2 (tt, code-exists n q _ _ h.3 (code-exists n ss _ is h.4 a)))
+code-exists n (null ss) x is h a = code-exists n ss x is h a
 
-all_exist : (n x : ℕ) (l : List Activity) → ((p : ℕ) → p < length l → Keeps n (get_or l p idle).body) → AllExist n (code_from x l)
+all_exist : (n : ℕ) (l : List Activity) (x : ℕ) → ((p : ℕ) → p < length l → Keeps n (get_or l p idle).body) → AllExist n (code_from x l)
 unfolding AllExist code_from
-all_exist n x [] h = tt
-all_exist n x (a ∷ l) h = code-exists n x a.body _ (h 0 (omega arith)) (all_exist n _ l (λ p g. h (suc p) (omega arith)))
+all_exist n [] x h = tt
+all_exist n (a ∷ l) x h = code-exists n a.body x _ (h 0 (omega arith)) (all_exist n l _ (λ p g. h (suc p) (omega arith)))
 
 length_all : (x : ℕ) (l : List Activity) → length (code_from x l) ≡ total l
 unfolding code_from total
@@ -109,7 +109,7 @@ module _ (c : Circuit) (s : Sized c) where
 
   exists_all : (x : ℕ) → x < length (translate c).code → Exists (length c.initial) (at (translate c).code x)
   unfolding translate
-  exists_all x h = exist_at (length c.initial) (code_from 0 c.processes) x (all_exist (length c.initial) 0 c.processes s.keeps) h
+  exists_all x h = exist_at (length c.initial) (code_from 0 c.processes) x (all_exist (length c.initial) c.processes 0 s.keeps) h
 
   -- the theorem
   pub fit_translation : FitTable (translate c)
