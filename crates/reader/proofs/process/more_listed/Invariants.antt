@@ -1,0 +1,16 @@
+-- `reader::process::more_listed` meets its contract: each return by its law.
+-- Assumes nothing.
+use Prim.Native.Nat.{ℕ, ◌-◌}
+use mathlib.Core.Path.{◌≡◌}
+use mathlib.Core.List.{List}
+use lib.ListN.{length}
+use Rattle.reading.specs.declared.Spot.{Spot}
+use Rattle.syntax.proofs.Rows.{more_listed}
+use Rattle.reading.specs.Inside.Reading.{Ready, Reads, whole, more_listed_roles, more_listed_draft}
+use Rattle.reader.proofs.process.more_listed.Given as goal
+
+abbrev pub invariant-loop-p : goal.invariant-loop-p
+invariant-loop-p z = Ready 0 z.text z.p z.ledger × ((q : Spot) (l v : List ℕ) → Reads (whole more_listed more_listed_roles more_listed_draft) z.text 32 z.p q z.ledger l z.table v → Reads (whole more_listed more_listed_roles more_listed_draft) z.text 32 z.initial.p q z.initial.ledger l z.initial.table v) × (length z.table ≡ length z.initial.table)
+
+abbrev pub decreases-loop-p : goal.decreases-loop-p
+decreases-loop-p l = length l.text - l.p.at

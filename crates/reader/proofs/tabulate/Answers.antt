@@ -1,0 +1,22 @@
+-- `reader::tabulate` meets its contract: the second run over the text, over zeros.
+-- Assumes nothing.
+use mathlib.Core.Path.{refl}
+use native.Mathlib.Omega.{arith}
+use lib.ListN.{length-set}
+use Rattle.reader.proofs.Tabling.{translated}
+use Rattle.reader.proofs.tabulate.Goals as goal
+
+pub design-q-requires : goal.design-q-requires
+design-q-requires c = record { judgement = _; keeps = c.fresh-ledger.ensures c.args.text.now }
+
+pub bounds-table-1 : goal.bounds-table-1
+bounds-table-1 c = simp (length-set) (omega (arith, c.table-2-1.given, c.table-1.given, c.requires.table_size_in_bounds))
+
+pub bounds-table-2 : goal.bounds-table-2
+bounds-table-2 c = simp (length-set) (omega (arith, c.table-2-1.given, c.table-1.given, c.requires.table_size_in_bounds))
+
+pub shape_of-table : goal.shape_of-table
+shape_of-table c = simp (length-set) (omega (arith, c.table-2-1.given, c.table-1.given, c.requires.table_size_in_bounds))
+
+pub returns : goal.returns
+returns c = translated c.requires.answers.1 c.design-q.ensures (c.fresh-ledger.ensures c.args.text.now) c.requires.table_size_in_bounds c.clear.ensures refl
