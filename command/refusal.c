@@ -9,7 +9,7 @@
 #include <ctype.h>
 #include <stdio.h>
 
-enum { REFUSED_LIST = 21, LISTED = 8 /* of more signals, so many are listed */ };
+enum { LISTED = 8 /* of more signals, so many are listed */ };
 
 static struct tokens tokens; /* of the text that is refused */
 
@@ -151,14 +151,12 @@ static void say_instead(const struct text *text, unsigned kind, size_t number)
         say_driver(text, tokens.all[number]);
     else if (kind == COMPASSNAIL_REFUSED_COUNT)
         say_count(text, number);
-    else if (kind == REFUSED_LIST)
-        fputs("  accepted behind it: a list, as `(q)`\n", stderr);
 }
 
 void explain_text(const struct text *text, uint64_t answer)
 {
     unsigned kind = compassnail_kind(answer);
-    if (!compassnail_has_place(answer) && kind != REFUSED_LIST) {
+    if (!compassnail_has_place(answer)) {
         fprintf(stderr, "%s: refused %u: %s\n", text->name, kind, compassnail_message(kind));
         if (kind == COMPASSNAIL_REFUSED_TEXT_LENGTH)
             fputs("  accepted: at most 60,000 bytes, with blanks and comments\n", stderr);

@@ -12,18 +12,21 @@
        compassnail_advance(table, ...)   the session at the next time at which something happens, and the dump's lines there;
                                          again and again, until it answers quiet, stop reached or a refusal
 
-   What is lent. Every buffer is lent for the length of the call, and its length is given in elements, not in bytes. A pointer may
-   not be null, not even where the length is 0. A pointer to words is aligned as uint64_t. Buffers that a call may write overlap
-   none of the others. A buffer may be longer than it must be: what stands behind its size is neither read nor written, and of an
-   output buffer only the bytes that the answer counts are written. Any content of any buffer is allowed: damaged tables and
-   sessions are refused. A call that is refused, quiet, or has reached its stop changes nothing that was lent to it.
+   What is lent. Every buffer is lent for the length of the call, and its length is given in elements, not in bytes. A pointer may be
+   null where its length is 0: that is an empty buffer, as any other of length 0. A pointer to words is aligned as uint64_t. Buffers that
+   a call may write overlap none of the others. A buffer may be longer than it must be: what stands behind its size is neither read nor
+   written, and of an output buffer only the bytes that the answer counts are written. Any content of any buffer is allowed: damaged
+   tables and sessions are refused where they are not fit. A call that is refused, quiet, or has reached its stop changes nothing that
+   was lent to it.
 
-   What is answered. Every function answers one number, kind + 256 * detail. compassnail_kind and compassnail_detail take it apart.
+   What is answered. Each of these four answers one number, kind + 256 * detail. compassnail_kind and compassnail_detail take it apart.
 
        kind 0          done; the detail is the number of bytes written, and 0 for compassnail_read
-       kind 1 to 33    the refusal of that number; the detail is the byte place in the text for 2 to 10, and 0 for all others
+       kind 1 to 16    the refusal of that number; the detail is the byte place in the text where the refusal has one, else 0
        kind 254        quiet: nothing is pending, so nothing will ever happen again
-       kind 255        stop reached: something is pending, but nothing up to the stop */
+       kind 255        stop reached: something is pending, but nothing up to the stop
+
+   There is no other kind today; 17 to 253 are kept for refusals to come. */
 #ifndef COMPASSNAIL_H
 #define COMPASSNAIL_H
 
@@ -34,11 +37,32 @@
 extern "C" {
 #endif
 
+/* The version of this header: the first number moves where a bench would have to change. */
+#define COMPASSNAIL_VERSION "1.0.0"
+#define COMPASSNAIL_VERSION_MAJOR 1
+#define COMPASSNAIL_VERSION_MINOR 0
+#define COMPASSNAIL_VERSION_PATCH 0
+
 /* Sizes of the buffers, in elements. A shorter one is refused 11. */
 #define COMPASSNAIL_TABLE_WORDS 8387
 #define COMPASSNAIL_SESSION_WORDS 1154
 #define COMPASSNAIL_OUT_BYTES 4096
 #define COMPASSNAIL_REPORT_WORDS 3
+
+/* Bytes of stack that a call needs at most, whatever it is lent: for the arguments and the return address that are handed over on the
+   stack, and for the frames of all that runs until the call returns, memcpy and memset of the C library among them. Where a call runs
+   on a small stack, as a coroutine's, that stack needs room beside this for what is not counted:
+
+       the caller's own frames
+       handlers of signals that run on that stack (a handler with SA_ONSTACK runs on another)
+       the dynamic linker, where it binds memcpy or memset at their first use, with some 3 KB: none where the program is linked with
+       -z now or statically
+
+   tests/c/stack.c runs every function on stacks of exactly these sizes; they hold for the archive of the same version. */
+#define COMPASSNAIL_READ_STACK_BYTES 40960
+#define COMPASSNAIL_HEADER_STACK_BYTES 40960
+#define COMPASSNAIL_START_STACK_BYTES 16384
+#define COMPASSNAIL_ADVANCE_STACK_BYTES 16384
 
 /* Limits of a design and of a run. */
 #define COMPASSNAIL_TEXT_BYTES 60000
@@ -54,7 +78,8 @@ extern "C" {
 #define COMPASSNAIL_REPORT_CYCLES 1 /* cycles of this call; the first run of all processes is none */
 #define COMPASSNAIL_REPORT_STEPS 2  /* instructions done in this call */
 
-/* Kinds of answers. A place is the byte, counted from 0, at which the named token starts. */
+/* Kinds of answers. A place is the byte, counted from 0, at which the named token starts. docs/FORMAT.md says when a table and a session
+   are fit: a table that no compassnail_read wrote may be, and so may another table's session that has as many signals. */
 #define COMPASSNAIL_DONE 0
 #define COMPASSNAIL_REFUSED_TEXT_LENGTH 1   /* the text has more than 60,000 bytes */
 #define COMPASSNAIL_REFUSED_TOKEN 2         /* a byte or token that is not in the lexical rules */
@@ -68,8 +93,8 @@ extern "C" {
 #define COMPASSNAIL_REFUSED_COUNT 10        /* the 65th signal, the 65th process (at its word `process`) or the 4,097th instruction */
 #define COMPASSNAIL_REFUSED_BUFFER 11       /* a lent buffer is too short */
 #define COMPASSNAIL_REFUSED_STOP 12         /* the stop is above 10^18 femtoseconds */
-#define COMPASSNAIL_REFUSED_TABLE 13        /* the table is not fit: no compassnail_read wrote it, or it was damaged */
-#define COMPASSNAIL_REFUSED_SESSION 14      /* the session is not fit for the table: it is another table's, or it was damaged */
+#define COMPASSNAIL_REFUSED_TABLE 13        /* the table is not fit: it may be damaged, or no compassnail_read may have written it */
+#define COMPASSNAIL_REFUSED_SESSION 14      /* the session is not fit for the table: it may be damaged, or another table's */
 #define COMPASSNAIL_REFUSED_PENDING 15      /* a post would give its signal a 17th pending change */
 #define COMPASSNAIL_REFUSED_CYCLES 16       /* a 1,001st cycle at one time would begin */
 #define COMPASSNAIL_QUIET 254
@@ -81,7 +106,7 @@ static inline unsigned compassnail_kind(uint64_t answer)
     return (unsigned)(answer % 256);
 }
 
-/* The detail of an answer: bytes written where the kind is 0, the place in the text where it is 2 to 10, else 0. */
+/* The detail of an answer: bytes written where the kind is 0, the place in the text where it has one, else 0. */
 static inline uint64_t compassnail_detail(uint64_t answer)
 {
     return answer / 256;
@@ -94,7 +119,7 @@ static inline int compassnail_is_refusal(uint64_t answer)
     return kind != COMPASSNAIL_DONE && kind != COMPASSNAIL_QUIET && kind != COMPASSNAIL_STOP_REACHED;
 }
 
-/* Whether the detail of an answer is a place in the text. */
+/* Whether the detail of an answer is a place in the text: it is for refusals 2 to 10. */
 static inline int compassnail_has_place(uint64_t answer)
 {
     unsigned kind = compassnail_kind(answer);
@@ -141,6 +166,16 @@ uint64_t compassnail_start(const uint64_t *table, size_t table_words, uint64_t *
    Done; quiet; stop reached; or refused, in this order: 11; 12; 13; 14; then 15 or 16, the first to arise in the run. */
 uint64_t compassnail_advance(const uint64_t *table, size_t table_words, uint64_t *session, size_t session_words, uint64_t stop,
                              uint8_t *out, size_t out_length, uint64_t *report, size_t report_words);
+
+/* The two functions below are plain C (source/answers.c): an installed library has them, the archive of the proved functions alone has
+   not. */
+
+/* A sentence for a kind of answer, in English, without a full stop; for a kind that this version does not know, one that says so. */
+const char *compassnail_message(unsigned kind);
+
+/* The line and the column of a place in a text, both counted from 1; a column counts bytes. A line ends with LF, with CR LF or with a CR
+   alone. A place behind the text's end is taken for its end. */
+void compassnail_line_column(const uint8_t *text, size_t text_length, uint64_t place, size_t *line, size_t *column);
 
 #ifdef __cplusplus
 }

@@ -26,8 +26,6 @@ const char *compassnail_message(unsigned kind)
     if (kind < sizeof refusals / sizeof *refusals)
         return refusals[kind];
     switch (kind) {
-    case 21:
-        return "this process has no list";
     case COMPASSNAIL_QUIET:
         return "quiet: nothing is pending";
     case COMPASSNAIL_STOP_REACHED:
