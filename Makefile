@@ -13,7 +13,7 @@ INSTALL ?= install
 
 VERSION := $(shell sed -n 's/^#define COMPASSNAIL_VERSION "\(.*\)"/\1/p' include/compassnail.h)
 MAJOR := $(firstword $(subst ., ,$(VERSION)))
-SOURCES := $(shell find crates -path '*/must-fail' -prune -o \( -name '*.rt' -o -name '*.antt' \) -print) crates.txt
+SOURCES := $(shell find crates \( -name must-fail -o -name out \) -prune -o \( -name '*.rt' -o -name '*.antt' \) -print) crates.txt
 PROVED = target/staticlib/libcompassnail.a
 PROGRAMS = target/bin/dump target/bin/trace
 BUILT = target
@@ -26,13 +26,11 @@ all: $(ARCHIVE) $(SHARED) $(COMMAND) $(PROGRAMS)
 # What is proved is built by rt, which the path has to have.
 $(PROVED): $(SOURCES)
 	@command -v rt > /dev/null || { echo "$@ is proved and built by rt, the Rattle toolchain, which is not on the path" >&2; exit 1; }
-	rt staticlib compassnail
-	touch $@
+	tools/build compassnail
 
 $(PROGRAMS): target/bin/%: $(SOURCES)
 	@command -v rt > /dev/null || { echo "$@ is proved and built by rt, the Rattle toolchain, which is not on the path" >&2; exit 1; }
-	rt check $*
-	touch $@
+	tools/build $*
 
 # The library is what is proved and the plain C beside it.
 $(BUILT)/lib/answers.o: source/answers.c include/compassnail.h
