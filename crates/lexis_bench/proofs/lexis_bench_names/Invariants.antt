@@ -1,0 +1,11 @@
+-- `lexis_bench::lexis_bench_names` is safe and ends: each token lies within the rest of the text, and is not empty, so there are no
+-- more names than bytes. Assumes nothing.
+use Prim.Native.Nat.{◌-◌, ◌≤◌}
+use lib.ListN.{length}
+use Rattle.lexis_bench.proofs.lexis_bench_names.Given as goal
+
+abbrev pub invariant-loop-n : goal.invariant-loop-n
+invariant-loop-n l = (l.n ≤ length l.text) × (l.names ≤ l.n)
+
+abbrev pub decreases-loop-n : goal.decreases-loop-n
+decreases-loop-n l = length l.text - l.n
