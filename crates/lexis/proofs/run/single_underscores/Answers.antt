@@ -31,7 +31,7 @@ loop-i-preserved c =
         | in-Underscore+else-after w ↦ ap next (w.after-is ∙ sym (ap is_underscore w.in-Underscore.is)) ∙ on (rw w.if-after.false) ∙ c.loop-i.invariant.1
         | in_default w ↦
             let u : is_underscore k ≡ false =
-                among (λ (k : Class). is_underscore k ≡ false) k 0 (1 ∷ 3 ∷ 4 ∷ 5 ∷ 6 ∷ 7 ∷ []) (opened w.in_default.in_default-own.keys2) (refl, (refl, (refl, (refl, (refl, (refl, refl)))))) in
+            among (λ (k : Class). is_underscore k ≡ false) k 0 (1 ∷ 3 ∷ 4 ∷ 5 ∷ 6 ∷ 7 ∷ []) (opened w.in_default.in_default-own.keys2) (refl, (refl, (refl, (refl, (refl, (refl, refl)))))) in
             ap next (w.after-is ∙ sym u) ∙ on (none_after c.loop-i.after (is_underscore k) u) ∙ c.loop-i.invariant.1
       ],
     )
