@@ -12,7 +12,7 @@ use lib.Dec.{eqb}
 use lib.ListN.{length, get_or}
 use borrow.Author.Tests.{eq-eqb, eqb-true}
 use Rattle.laws.proofs.Cases.{side, split, by}
-use Rattle.rules.specs.Pending.{Change, change, Pending, due_in, due, Least, nothing, first, lower, least_in, least}
+use Rattle.rules.specs.Pending.{Change, Pending, due_in, due, Least, nothing, first, lower, least_in, least}
 use Rattle.rules.specs.Session.{Each, Rising}
 use Rattle.table.specs.Table.{bit, tabulate}
 use Rattle.table.proofs.Tabulated.{bit-zero}

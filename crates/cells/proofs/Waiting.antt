@@ -1,11 +1,11 @@
 -- A signal's pending changes as a row of numbered ones: which of them a post removes, and which of them are due. Assumes nothing.
-use Prim.Native.Nat.{ℕ, zero, suc, ◌+◌, ◌-◌, ◌<◌, ◌≤◌}
+use Prim.Native.Nat.{ℕ, zero, suc, ◌+◌, ◌<◌, ◌≤◌}
 use mathlib.Core.Path.{◌≡◌, refl, ap, subst}
 use mathlib.Core.List.{List, [], ◌∷◌}
 use mathlib.Core.Bool.{Bool, false}
 use native.Mathlib.Omega.{arith}
 use borrow.Author.Tests.{lt-ltb, le-ltb, ne_eqb}
-use Rattle.rules.specs.Pending.{Change, change, before, taken, kept, due_in}
+use Rattle.rules.specs.Pending.{Change, before, taken, kept, due_in}
 use Rattle.rules.specs.Session.{Each, Rising}
 use Rattle.table.specs.Table.{tabulate}
 use Rattle.table.proofs.Changes.{each_more}

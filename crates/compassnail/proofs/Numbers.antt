@@ -1,10 +1,9 @@
 -- Answers of a run as numbers: a call writes no more than a buffer has.
 -- Assumes nothing.
-use Prim.Native.Nat.{ℕ, ◌≤◌, ◌<◌}
-use mathlib.Core.Path.{◌≡◌, refl, sym, ap, subst, ◌∙◌}
+use Prim.Native.Nat.{ℕ, ◌≤◌}
+use mathlib.Core.Path.{◌≡◌, sym, subst}
 use mathlib.Core.List.{List}
 use lib.ListN.{length}
-use native.Mathlib.Omega.{arith}
 use Rattle.rules.specs.Calls.{refused, quiet, stop_reached, moved}
 use Rattle.rules.specs.Calls as calls
 use Rattle.table.proofs.Written.{WritesFit}

@@ -7,7 +7,6 @@ use mathlib.Core.List.{[], ◌∷◌}
 use lib.ListN.{get_or}
 use Rattle.syntax.specs.Circuit.{AND, OR, NAND, NOR, XOR, XNOR}
 use Rattle.table.specs.Instructions.{Instruction, name, literal, negation, binary, takes, leaves}
-use Rattle.table.specs.Translation.{number}
 use Rattle.table.specs.Fit.{Leads, Ahead, Exists}
 use Rattle.layout.specs.TableWords.{operation_word, delay_word}
 use Rattle.layout.proofs.Columns.{truth}

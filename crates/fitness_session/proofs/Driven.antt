@@ -10,7 +10,7 @@ use Rattle.laws.proofs.Deciding.{differ}
 use Rattle.rules.specs.Runner.{Runner}
 use Rattle.rules.specs.Session.{driven}
 use Rattle.table.specs.Instructions.{Instruction, name, literal, negation, binary, assignment, test, skip}
-use Rattle.table.specs.Table.{tabulate, begins, posts, runner, runners}
+use Rattle.table.specs.Table.{tabulate, begins, runner, runners}
 use Rattle.table.specs.Fit.{at, Exists, FitTable}
 use Rattle.table.proofs.Obedient.{driven_by}
 use Rattle.layout.proofs.Tables.{decode_table}

@@ -14,7 +14,6 @@ use Rattle.laws.specs.Pick.{within, same_list}
 use Rattle.laws.proofs.Ranges.{within-inside, within-below, within-above}
 use Rattle.words.specs.Token.{Name}
 use Rattle.look.specs.Inside.Looks.{name_at}
-use Rattle.names.specs.Roles.{labels}
 use Rattle.names.specs.Judge.{State, is_among, has, declared, labelled, opened, assigned, counted}
 use Rattle.names.proofs.Kept.{has-append}
 use Rattle.ledger.specs.Inside.Standing.{Span, Shelf, names_from, added, Driven, Standing}

@@ -9,7 +9,6 @@ use borrow.Author.Tests.{ltb-false}
 use lib.Dec.{T, eqb, ltb}
 use lib.ListN.{length, drop, take, get_or, length-map, length-take}
 use lib.Seq.{length-take-le}
-use Rattle.laws.specs.Text.{bytes}
 use Rattle.laws.proofs.Picks.{pick_both}
 use Rattle.laws.proofs.Table.{every, first_passes, others_pass}
 use Rattle.words.specs.Token.{Name, Token, name, integer, literal, once, chain, unit, fixed, foreign}

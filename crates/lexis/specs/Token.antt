@@ -1,6 +1,6 @@
 -- The first token of a text, the first place that the lexical rules refuse, and all tokens of a text with their places.
 -- Assumes nothing: these are definitions.
-use Rattle.std.specs.Prelude.{ℕ, zero, suc, ◌+◌, ◌-◌, false, List, [], ◌∷◌, eqb, get_or, length, take, drop}
+use Rattle.std.specs.Prelude.{ℕ, zero, suc, ◌+◌, false, List, [], ◌∷◌, eqb, get_or, length, take, drop}
 use Rattle.laws.specs.Pick.{pick}
 use Rattle.words.specs.Integer.{value_of}
 use Rattle.words.specs.Vocabulary.{word_token}

@@ -21,7 +21,7 @@ use Rattle.syntax.specs.Sentence.{most_open, statements_nest, statement_nest, ot
 use Rattle.rules.specs.Formulas.{size}
 use Rattle.rules.specs.Statements
 use Rattle.rules.specs.Sized.{instructions, total, Known, Keeps, Listed}
-use Rattle.names.specs.Roles.{Role, declares, listens, assigns, opens, passes, expression_roles, tail_roles, more_roles, factor_roles, primary_roles, delay_roles, statements_roles, statement_roles, otherwise_roles, word_roles, closing_roles, label_roles, comma_roles, initial_roles, sensitivity_roles, declarations_roles, processes_roles}
+use Rattle.names.specs.Roles.{Role, declares, listens, opens, passes, expression_roles, tail_roles, more_roles, factor_roles, primary_roles, delay_roles, statements_roles, statement_roles, otherwise_roles, word_roles, closing_roles, label_roles, comma_roles, initial_roles, sensitivity_roles, declarations_roles, processes_roles}
 use Rattle.names.specs.Judge.{State, is_among, number_of, has, faults, next}
 use Rattle.names.specs.CircuitOf.{chain_operator, expression_formula, tail_formula, more_formula, factor_formula, primary_formula, delay_femtoseconds, statements_actions, statement_actions, otherwise_actions, without, distinct, list_names, numbers, activities_of, declared_names}
 use Rattle.names.proofs.Verdict.{Clear}

@@ -10,7 +10,7 @@ use lib.Dec.{eqb}
 use lib.ListN.{length, get_or}
 use borrow.Author.Tests.{ne_eqb, eqb-true, eqb-false}
 use Rattle.laws.proofs.Ranges.{within-below, within-above}
-use Rattle.words.specs.Token.{Name, SIGNAL, BEGIN, BOOLEAN, COLON, COMMA, SEMICOLON, BECOMES, literal}
+use Rattle.words.specs.Token.{Name, SIGNAL, BEGIN, BOOLEAN, COLON, COMMA, SEMICOLON, BECOMES}
 use Rattle.syntax.specs.Tree.{declaration}
 use Rattle.syntax.proofs.Rows.{rows, next, a_name, a_literal, the_word, initial_value, more_signals, signals, the_fixed}
 use Rattle.syntax.proofs.Missing as missing

@@ -1,6 +1,6 @@
 -- Laws of every reader: a refused spot stays, a token that fits nowhere is refused 3, and the address of the next instruction does not count for the machine.
 -- Assumes nothing.
-use Prim.Native.Nat.{ℕ, ◌+◌, ◌<◌, ◌≤◌}
+use Prim.Native.Nat.{ℕ, ◌<◌, ◌≤◌}
 use native.Mathlib.Omega.{arith}
 use mathlib.Core.Path.{◌≡◌, refl}
 use mathlib.Core.Bool.{false}

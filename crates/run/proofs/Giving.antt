@@ -13,7 +13,7 @@ use Rattle.layout.specs.TableWords.{FitTableWords}
 use Rattle.layout.specs.SessionWords.{session_words, FitSessionWords}
 use Rattle.layout.proofs.Tables.{decode_table, table_of_fit_words}
 use Rattle.layout.proofs.Sessions.{session_of_fit_words}
-use Rattle.cells.specs.Cells.{values, FitFor}
+use Rattle.cells.specs.Cells.{FitFor}
 use Rattle.machine.specs.Inside.Steps.{signals_of}
 use Rattle.machine.proofs.Fetching.{held, fits}
 use Rattle.cycles.specs.Inside.Turns.{session_of}

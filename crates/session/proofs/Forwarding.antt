@@ -1,10 +1,9 @@
 -- An advance on cells is an advance. Assumes nothing.
 use Prim.Native.Nat.{ℕ, ◌<◌, ◌≤◌}
-use mathlib.Core.Path.{◌≡◌, ap, sym, ◌∙◌}
+use mathlib.Core.Path.{◌≡◌, ap, ◌∙◌}
 use mathlib.Core.List.{List}
 use borrow.Author.Tests.{lt-ltb, le-ltb}
 use Rattle.rules.specs.Outcome.{refuses, gives}
-use Rattle.rules.specs.Pending.{nothing}
 use Rattle.rules.specs.Runner.{Runner}
 use Rattle.rules.specs.Dump.{advance_bytes}
 use Rattle.rules.specs.Calls.{refused, quiet, stop_reached, moved, answered, cycles, advance}

@@ -10,7 +10,6 @@ use Rattle.cells.specs.Cells.{FitFor}
 use Rattle.cycles.specs.Inside.Turns.{session_of}
 use Rattle.writing.specs.Inside.Written.{Writes}
 use Rattle.session.specs.Inside.Goings.{GoesAs}
-use Rattle.session.specs.declared.Answer.{Answer}
 use Rattle.session.specs.declared.Answer.TheVariants.{Refused, Quiet, StopReached, Moves}
 
 module _ (o : calls.Answer) (n : ℕ) (cells out : List ℕ) where

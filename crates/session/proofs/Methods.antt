@@ -6,7 +6,7 @@ use mathlib.Core.List.{List}
 use native.Mathlib.Omega.{arith}
 use Rattle.table.specs.Table.{runners}
 use Rattle.layout.proofs.Tables.{decode_table}
-use Rattle.cells.specs.Cells.{values, pendings, FitFor, Posted, Due}
+use Rattle.cells.specs.Cells.{pendings, FitFor, Posted, Due}
 use Rattle.cells.proofs.Columns.{same_values}
 use Rattle.cells.proofs.Dues.{fit-posted}
 use Rattle.machine.specs.Inside.Steps.{signals_of}

@@ -6,7 +6,7 @@ use mathlib.Core.Bool.{Bool, true, false}
 use native.Mathlib.Numerals.{add-one}
 use native.Mathlib.Omega.{arith}
 use lib.Count.{count_trailing_zeros}
-use lib.ListN.{length, set, length-append}
+use lib.ListN.{length, length-append}
 use Rattle.laws.specs.Pick.{pick}
 use Rattle.laws.specs.Text.{bytes}
 use Rattle.laws.proofs.Cases.{split}

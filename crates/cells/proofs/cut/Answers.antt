@@ -1,5 +1,4 @@
 -- `cells::cut` meets its contract: from n on all changes come at t or later, and are gone. Assumes nothing.
-use Prim.Native.Nat.{◌-◌}
 use native.Mathlib.Omega.{arith}
 use Rattle.cells.proofs.Cutting.{cutting_none, cutting_more, cut-found, cut-none}
 use Rattle.cells.proofs.cut.Goals as goal

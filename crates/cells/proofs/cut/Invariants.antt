@@ -1,5 +1,4 @@
 -- `cells::cut` meets its contract: from n on all changes come at t or later, and are gone. Assumes nothing.
-use Prim.Native.Nat.{◌-◌}
 use Rattle.cells.proofs.Cutting.{Cutting}
 use Rattle.cells.proofs.cut.Given as goal
 

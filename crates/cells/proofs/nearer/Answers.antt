@@ -1,7 +1,6 @@
 -- `cells::nearer` meets its contract: the first time is earlier, or it is the same or a later one. Assumes nothing.
 use Prim.Native.Nat.{ℕ, ◌^◌, ◌<◌}
 use mathlib.Core.Path.{◌≡◌, refl, sym, ◌∙◌}
-use mathlib.Core.Logic.{⊎_elim}
 use native.Mathlib.Omega.{arith}
 use lib.Bits.{bit_or}
 use Rattle.cells.specs.Inside.Moves.{Nearer}

@@ -1,5 +1,5 @@
 -- `cells::post` meets its contract: what is left after the cut, and the new change behind it. Assumes nothing.
-use Prim.Native.Nat.{◌+◌, ◌*◌, ◌-◌}
+use Prim.Native.Nat.{◌+◌, ◌*◌}
 use native.Mathlib.Omega.{arith}
 use Rattle.cells.specs.Cells.{count_of, truth}
 use Rattle.cells.proofs.Posting.{rising-cells, post-refused, post-done}

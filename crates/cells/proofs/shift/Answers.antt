@@ -1,5 +1,4 @@
 -- `cells::shift` meets its contract: the cells below i are moved. Assumes nothing.
-use Prim.Native.Nat.{◌-◌}
 use mathlib.Core.Path.{◌≡◌}
 use native.Mathlib.Omega.{arith}
 use Rattle.cells.proofs.Cutting.{shifted_none, shifted_more}
@@ -33,12 +32,11 @@ pub loop-i-smaller : goal.loop-i-smaller
 loop-i-smaller c = omega arith
 
 pub loop-i-preserved : goal.loop-i-preserved
-loop-i-preserved c =
-    (
-      omega arith,
-      omega arith,
-      shifted_more c.args.cells.now c.loop-i.cells c.args.base c.loop-i.i (omega arith) (omega arith) c.loop-i.invariant.2,
-    )
+loop-i-preserved c = (
+  omega arith,
+  omega arith,
+  shifted_more c.args.cells.now c.loop-i.cells c.args.base c.loop-i.i (omega arith) (omega arith) c.loop-i.invariant.2,
+)
 
 pub returns : goal.returns
 returns c = let q : c.loop-i.i ≡ c.args.n = omega arith in rw q at c.loop-i.invariant.2

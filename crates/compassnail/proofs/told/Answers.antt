@@ -3,7 +3,6 @@
 use native.Mathlib.Omega.{arith}
 use borrow.Author.Rules.{rules}
 use lib.ListN.{length-set}
-use Rattle.compassnail.specs.Codes.{report_after}
 use Rattle.compassnail.proofs.told.Goals as goal
 
 pub bounds-report-1 : goal.bounds-report-1

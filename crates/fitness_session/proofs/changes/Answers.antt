@@ -1,6 +1,5 @@
 -- `fitness_session::changes` meets its contract: the changes below j rise to the last.
 -- Assumes nothing.
-use Prim.Native.Nat.{◌-◌}
 use native.Mathlib.Omega.{arith}
 use Rattle.laws.proofs.Deciding.{decides_no}
 use Rattle.fitness_session.proofs.Climbing.{climb_none, climb_more, climb_bad, climb_far, climb_done}

@@ -1,6 +1,5 @@
 -- `fitness_session::signals` meets its contract: what is pending for the signals below k is fit.
 -- Assumes nothing.
-use Prim.Native.Nat.{◌-◌}
 use borrow.Author.Count.{below_more}
 use borrow.Author.Tests.{not-true, not-false}
 use native.Mathlib.Omega.{arith}

@@ -1,6 +1,5 @@
 -- `heading::copy_lower` meets its contract: the first i bytes are copied.
 -- Assumes nothing.
-use Prim.Native.Nat.{◌-◌}
 use mathlib.Core.Path.{refl, ap, ◌∙◌}
 use native.Mathlib.Omega.{arith}
 use native.Mathlib.Numerals.{add-one}

@@ -1,6 +1,5 @@
 -- `heading::copy_name` meets its contract: a part of the text.
 -- Assumes nothing.
-use Prim.Native.Nat.{◌-◌}
 use native.Mathlib.Omega.{arith}
 use Rattle.look.specs.Inside.Looks.{part, name_at}
 use Rattle.heading.proofs.Rows.{lower-length}

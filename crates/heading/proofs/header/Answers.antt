@@ -1,6 +1,5 @@
 -- `heading::header` meets its contract: 11, then the text, then the bytes.
 -- Assumes nothing.
-use Prim.Native.Nat.{◌-◌}
 use mathlib.Core.Path.{refl}
 use Rattle.heading.specs.Headed.{short, turned}
 use Rattle.heading.proofs.Rows.{survey_refused, survey_accepted}

@@ -1,6 +1,5 @@
 -- `heading::line` meets its contract: part by part.
 -- Assumes nothing.
-use Prim.Native.Nat.{◌-◌}
 use native.Mathlib.Omega.{arith}
 use Rattle.look.specs.Inside.Looks.{name_at}
 use Rattle.heading.proofs.Rows.{line_written, variable-length}

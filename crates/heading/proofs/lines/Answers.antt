@@ -1,6 +1,5 @@
 -- `heading::lines` meets its contract: one after the other.
 -- Assumes nothing.
-use Prim.Native.Nat.{◌-◌}
 use mathlib.Core.Path.{refl}
 use native.Mathlib.Omega.{arith}
 use lib.ListN.{length}

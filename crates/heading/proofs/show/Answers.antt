@@ -1,6 +1,5 @@
 -- `heading::show` meets its contract: part by part.
 -- Assumes nothing.
-use Prim.Native.Nat.{◌-◌}
 use mathlib.Core.Path.{ap, ◌∙◌}
 use native.Mathlib.Omega.{arith}
 use lib.ListN.{get_or}

@@ -1,5 +1,4 @@
 -- `run::load` meets its contract: the first j cells are loaded. Assumes nothing.
-use Prim.Native.Nat.{◌-◌}
 use mathlib.Core.Path.{◌≡◌, refl, subst}
 use native.Mathlib.Omega.{arith}
 use Rattle.run.specs.Inside.Copies.{Loaded}

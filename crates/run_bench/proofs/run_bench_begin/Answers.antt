@@ -1,7 +1,6 @@
 -- `run_bench::run_bench_begin` is safe: it runs without a plan.
 -- Assumes nothing.
 use Rattle.machine.proofs.Running.{planned_empty}
-use Prim.Native.Nat.{◌-◌}
 use Rattle.run_bench.proofs.run_bench_begin.Goals as goal
 
 pub begin-requires : goal.begin-requires

@@ -1,5 +1,4 @@
 -- `session::forward` meets its contract: quiet, stop reached, refused or moved. Assumes nothing.
-use Prim.Native.Nat.{◌-◌}
 use native.Mathlib.Omega.{arith}
 use Rattle.rules.specs.Calls.{advance}
 use Rattle.table.specs.Table.{runners}

@@ -1,5 +1,4 @@
 -- `session::fresh` meets its contract: the first k values are filled in. Assumes nothing.
-use Prim.Native.Nat.{◌-◌}
 use mathlib.Core.Path.{◌≡◌, refl, subst}
 use native.Mathlib.Omega.{arith}
 use Rattle.machine.proofs.Fetching.{held}

@@ -1,5 +1,5 @@
 -- `writing::chosen_lines` meets its contract: the lines of the chosen among the first k signals are written. Assumes nothing.
-use Prim.Native.Nat.{◌+◌, ◌-◌}
+use Prim.Native.Nat.{◌+◌}
 use native.Mathlib.Omega.{arith}
 use lib.Count.{count_trailing_zeros}
 use Rattle.writing.proofs.Buffers.{writes-length}

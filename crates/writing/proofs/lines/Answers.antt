@@ -1,5 +1,4 @@
 -- `writing::lines` meets its contract: the lines of the first k signals are written. Assumes nothing.
-use Prim.Native.Nat.{◌-◌}
 use mathlib.Core.Path.{◌≡◌, subst}
 use native.Mathlib.Omega.{arith}
 use Rattle.rules.specs.Dump.{all}

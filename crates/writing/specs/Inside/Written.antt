@@ -1,6 +1,6 @@
 -- Bytes written to a buffer from a place on: they stand there, the others stay, and the answer is the place behind them.
 -- Assumes nothing.
-use Rattle.std.specs.Prelude.{ℕ, suc, ◌+◌, ◌-◌, ◌≡◌, List, [], ◌∷◌, ◌++◌, length}
+use Rattle.std.specs.Prelude.{ℕ, suc, ◌+◌, ◌≡◌, List, [], ◌∷◌, ◌++◌, length}
 use Rattle.std.proofs.lemmas.List.Edits.{sets}
 use Rattle.laws.specs.Pick.{pick}
 use Rattle.rules.specs.Formulas.{Values}

@@ -1,6 +1,5 @@
 -- `fitness::drivers::drives` meets its contract: the drivers are known for the instructions below x.
 -- Assumes nothing.
-use Prim.Native.Nat.{◌-◌}
 use mathlib.Core.Path.{◌≡◌, sym, subst, ◌∙◌}
 use borrow.Author.Tests.{eqb-true, not-true, not-false}
 use native.Mathlib.Omega.{arith}

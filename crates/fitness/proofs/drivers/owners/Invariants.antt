@@ -4,7 +4,6 @@ use Prim.Native.Nat.{◌-◌, ◌≤◌}
 use mathlib.Core.Path.{◌≡◌}
 use Rattle.table.specs.Table.{begins}
 use Rattle.layout.proofs.Tables.{decode_table}
-use Rattle.fitness.specs.Inside.Parts.{processes}
 use Rattle.fitness.specs.Inside.Drivers.{Owned}
 use Rattle.fitness.proofs.drivers.owners.Given as goal
 

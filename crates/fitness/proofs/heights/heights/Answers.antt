@@ -1,6 +1,6 @@
 -- `fitness::heights::heights` meets its contract: the instructions below x are done, and their heights are those of the ways.
 -- Assumes nothing.
-use Prim.Native.Nat.{ℕ, ◌-◌}
+use Prim.Native.Nat.{ℕ}
 use mathlib.Core.Path.{◌≡◌, sym, subst, ◌∙◌}
 use lib.ListN.{length-set}
 use borrow.Author.Tests.{not-true, not-false}

@@ -1,6 +1,5 @@
 -- `fitness::heights::sounds` meets its contract: the processes below p keep the rules, and nothing is known beyond.
 -- Assumes nothing.
-use Prim.Native.Nat.{◌-◌}
 use mathlib.Core.Path.{refl, sym}
 use borrow.Author.Tests.{not-true, not-false}
 use native.Mathlib.Omega.{arith}

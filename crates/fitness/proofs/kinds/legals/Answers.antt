@@ -1,6 +1,5 @@
 -- `fitness::kinds::legals` meets its contract: the instructions below x are legal.
 -- Assumes nothing.
-use Prim.Native.Nat.{◌-◌}
 use borrow.Author.Count.{below_more}
 use borrow.Author.Tests.{not-true, not-false}
 use native.Mathlib.Omega.{arith}

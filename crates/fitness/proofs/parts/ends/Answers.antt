@@ -1,6 +1,5 @@
 -- `fitness::parts::ends` meets its contract: the ends below p rise.
 -- Assumes nothing.
-use Prim.Native.Nat.{◌-◌}
 use mathlib.Core.Path.{refl}
 use native.Mathlib.Omega.{arith}
 use Rattle.laws.proofs.Deciding.{decides_no}

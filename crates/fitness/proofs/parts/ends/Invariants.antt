@@ -4,7 +4,6 @@ use Prim.Native.Nat.{◌-◌, ◌≤◌}
 use mathlib.Core.Path.{◌≡◌}
 use Rattle.table.specs.Table.{begins}
 use Rattle.layout.proofs.Tables.{decode_table}
-use Rattle.fitness.specs.Inside.Parts.{processes}
 use Rattle.fitness.proofs.Reading.{RisingTo}
 use Rattle.fitness.proofs.parts.ends.Given as goal
 

@@ -1,6 +1,6 @@
 -- `fitness::parts::most_of` meets its contract: the number is doubled k times.
 -- Assumes nothing.
-use Prim.Native.Nat.{◌+◌, ◌-◌, ◌^◌}
+use Prim.Native.Nat.{◌+◌, ◌^◌}
 use mathlib.Core.Path.{◌≡◌, refl, subst}
 use native.Mathlib.Omega.{arith}
 use Rattle.fitness.proofs.Ranges.{double}

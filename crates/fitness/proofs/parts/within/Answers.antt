@@ -1,6 +1,5 @@
 -- `fitness::parts::within` meets its contract: the words below j are.
 -- Assumes nothing.
-use Prim.Native.Nat.{◌-◌}
 use native.Mathlib.Omega.{arith}
 use Rattle.laws.proofs.Deciding.{decides_yes, decides_no}
 use Rattle.fitness.proofs.Ranges.{within_more}

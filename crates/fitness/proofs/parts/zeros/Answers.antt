@@ -1,6 +1,5 @@
 -- `fitness::parts::zeros` meets its contract: the words below j are gathered.
 -- Assumes nothing.
-use Prim.Native.Nat.{◌-◌}
 use native.Mathlib.Omega.{arith}
 use Rattle.fitness.proofs.Ranges.{gather_none, gather_more, gather_done}
 use Rattle.fitness.proofs.parts.zeros.Goals as goal

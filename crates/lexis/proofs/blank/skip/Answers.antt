@@ -1,8 +1,6 @@
 -- `lexis::blank::skip` meets its contract: what is skipped from i on ends where all that is skipped ends.
 -- Assumes nothing.
-use Prim.Native.Nat.{◌-◌}
 use mathlib.Core.Path.{ap, ◌∙◌}
-use mathlib.Core.Bool.{false}
 use borrow.Author.Rules.{rules}
 use Rattle.laws.proofs.Lists.{rest}
 use Rattle.lexis.specs.Blank.{dashes_of}

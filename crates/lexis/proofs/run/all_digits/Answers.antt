@@ -1,7 +1,6 @@
 -- `lexis::run::all_digits` meets its contract: what is left from i on is digits just where the run is.
 -- Assumes nothing.
 use borrow.Enum.Refused.{opened}
-use Prim.Native.Nat.{◌-◌}
 use mathlib.Core.Path.{◌≡◌, refl, ◌∙◌}
 use mathlib.Core.Bool.{true, false}
 use mathlib.Core.List.{[], ◌∷◌}

@@ -1,7 +1,6 @@
 -- `lexis::run::run_length` meets its contract: the run from i on ends where the whole run ends.
 -- Assumes nothing.
 use borrow.Enum.Refused.{opened}
-use Prim.Native.Nat.{◌-◌}
 use mathlib.Core.Path.{◌≡◌, refl, ◌∙◌}
 use mathlib.Core.Bool.{true, false}
 use mathlib.Core.List.{[], ◌∷◌}

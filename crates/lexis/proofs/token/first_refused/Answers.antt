@@ -1,9 +1,7 @@
 -- `lexis::token::first_refused` meets its contract: what is refused first from n on is what is refused first in all.
 -- Assumes nothing.
-use Prim.Native.Nat.{◌-◌}
 use mathlib.Core.Path.{refl, sym, ap, ◌∙◌}
 use native.Mathlib.Omega.{arith}
-use lib.ListN.{length}
 use Rattle.laws.proofs.Lists.{rest}
 use Rattle.lexis.specs.Token.{scan_of, first_refused}
 use Rattle.lexis.specs.declared.token.Scan.TheVariants.{Token as scanned, Refused as scanRefused}

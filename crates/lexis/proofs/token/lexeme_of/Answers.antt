@@ -1,6 +1,5 @@
 -- `lexis::token::lexeme_of` meets its contract: by the class of the first byte.
 -- Assumes nothing.
-use borrow.Enum.Refused.{opened}
 use mathlib.Core.Path.{sym, ◌∙◌}
 use native.Mathlib.Omega.{arith}
 use borrow.Author.Tests.{eq-eqb}

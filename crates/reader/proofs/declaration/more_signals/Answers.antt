@@ -1,6 +1,5 @@
 -- `reader::declaration::more_signals` meets its contract: each return by its law.
 -- Assumes nothing.
-use Prim.Native.Nat.{◌-◌}
 use mathlib.Core.Path.{refl}
 use native.Mathlib.Omega.{arith}
 use borrow.Author.Rules.{rules}

@@ -1,6 +1,5 @@
 -- `reader::process::process_list` meets its contract: each return by its law.
 -- Assumes nothing.
-use Prim.Native.Nat.{◌-◌}
 use mathlib.Core.Path.{refl}
 use borrow.Author.Rules.{rules}
 use Rattle.reading.proofs.Generic.{reads-off, ready-reads}

@@ -1,6 +1,6 @@
 -- `words::integer::amount_of` meets its contract: the value so far, with the digits that are left, has the value of the whole run.
 -- Assumes nothing.
-use Prim.Native.Nat.{◌+◌, ◌-◌}
+use Prim.Native.Nat.{◌+◌}
 use borrow.Author.Rules.{rules}
 use Rattle.words.proofs.Integers.{value_on, value_large, value-small}
 use Rattle.words.proofs.integer.amount_of.Goals as goal

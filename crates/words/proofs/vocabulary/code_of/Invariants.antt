@@ -1,6 +1,6 @@
 -- `words::vocabulary::code_of` meets its contract: the number so far is that of the bytes from i on.
 -- Assumes nothing.
-use Prim.Native.Nat.{◌-◌, ◌≤◌}
+use Prim.Native.Nat.{◌≤◌}
 use mathlib.Core.Path.{◌≡◌}
 use lib.ListN.{length, drop}
 use Rattle.words.specs.Inside.Codes.{code_of}

@@ -1,6 +1,5 @@
 -- `words::vocabulary::find` meets its contract: what is found from place k on is what is found in all.
 -- Assumes nothing.
-use Prim.Native.Nat.{◌-◌}
 use mathlib.Core.Path.{◌∙◌}
 use native.Mathlib.Omega.{arith}
 use Rattle.words.specs.Vocabulary.{subset, others, vocabulary}

@@ -2,7 +2,6 @@
 -- Assumes nothing.
 use Prim.Native.Nat.{◌-◌}
 use mathlib.Core.Path.{◌∙◌, sym, ap}
-use mathlib.Core.Bool.{true}
 use borrow.Author.Rules.{rules}
 use Rattle.words.specs.Vocabulary.{lower_of}
 use Rattle.words.proofs.Same.{same_lengths, same_off, same_none, same_on, same_all}

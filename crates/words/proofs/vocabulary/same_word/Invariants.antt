@@ -1,6 +1,6 @@
 -- `words::vocabulary::same_word` meets its contract: the words are the same from place i on.
 -- Assumes nothing.
-use Prim.Native.Nat.{◌-◌, ◌≤◌}
+use Prim.Native.Nat.{◌≤◌}
 use mathlib.Core.Path.{◌≡◌}
 use mathlib.Core.Bool.{true}
 use lib.ListN.{length, drop}
