@@ -6,6 +6,9 @@ ghost use Rattle.std.specs.Prelude.{◌≤◌, length};
 
 use fitness::fit_table;
 use fitness_session::fit_session;
+use program::read_full;
+use std::io;
+use std::io::Read;
 
 // The value of digits; 0 where it does not fit.
 fn number(digits: &[u8]) -> u64 {
@@ -45,31 +48,33 @@ fn repeat(words: &mut [u64], place: usize, count: u64) {
     }
 }
 
-fn say(fit: bool) {
+fn say(rt: &impl Print, fit: bool) -> io::Result<()> {
     if fit {
-        io::write_all(libc::STDOUT_FILENO, b"fit\n");
+        rt.write_all(b"fit\n")
     } else {
-        io::write_all(libc::STDOUT_FILENO, b"unfit\n");
+        rt.write_all(b"unfit\n")
     }
 }
 
-fn table_line(table: &[u64], count: usize) {
+fn table_line(rt: &impl Print, table: &[u64], count: usize) -> io::Result<()> {
     if count <= table.len() {
-        say(fit_table(&table[0..count]));
+        say(rt, fit_table(&table[0..count]))?;
     }
+    Ok(())
 }
 
-fn session_line(table: &[u64], session: &[u64], count: usize) {
+fn session_line(rt: &impl Print, table: &[u64], session: &[u64], count: usize) -> io::Result<()> {
     if count <= session.len() {
         if fit_table(table) {
-            say(fit_session(table, &session[0..count]));
+            say(rt, fit_session(table, &session[0..count]))?;
         } else {
-            io::write_all(libc::STDOUT_FILENO, b"no table\n");
+            rt.write_all(b"no table\n")?;
         }
     }
+    Ok(())
 }
 
-fn run(line: &[u8], table: &mut [u64], session: &mut [u64])
+fn run(rt: &impl Print, line: &[u8], table: &mut [u64], session: &mut [u64]) -> io::Result<()>
     requires { 29 ≤ length line.now }
 {
     let place = number(&line[2..7]) as usize;
@@ -78,33 +83,45 @@ fn run(line: &[u8], table: &mut [u64], session: &mut [u64])
         b'w' => put(table, place, value),
         b'v' => put(session, place, value),
         b'r' => repeat(table, place, value),
-        b't' => table_line(table, place),
-        _ => session_line(table, session, place),
+        b't' => table_line(rt, table, place)?,
+        _ => session_line(rt, table, session, place)?,
     }
+    Ok(())
 }
 
 // Runs the next line, and answers whether there was one.
-fn run_next(table: &mut [u64], session: &mut [u64]) -> bool {
+fn run_next<R: Read>(
+    rt: &impl Print,
+    input: &mut R,
+    table: &mut [u64],
+    session: &mut [u64],
+) -> io::Result<bool> {
     let mut line = [0u8; 29];
-    if io::read_full(libc::STDIN_FILENO, &mut line) < 29 {
-        return false;
+    if read_full(input, &mut line)? < 29 {
+        return Ok(false);
     }
-    run(&line, table, session);
-    true
+    run(rt, &line, table, session)?;
+    Ok(true)
 }
 
-fn run_all(table: &mut [u64], session: &mut [u64]) {
+fn run_all<R: Read>(
+    rt: &impl Print,
+    input: &mut R,
+    table: &mut [u64],
+    session: &mut [u64],
+) -> io::Result<()> {
     let mut turns: u64 = 1_000_000;
     while 0 < turns {
-        if !run_next(table, session) {
-            return;
+        if !run_next(rt, input, table, session)? {
+            return Ok(());
         }
         turns -= 1;
     }
+    Ok(())
 }
 
-fn main() {
+fn main(rt: HostRuntime) -> io::Result<()> {
     let mut table = [0u64; 8400];
     let mut session = [0u64; 1160];
-    run_all(&mut table, &mut session);
+    run_all(&rt, &mut rt.stdin(), &mut table, &mut session)
 }

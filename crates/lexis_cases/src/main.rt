@@ -6,8 +6,10 @@ mod say;
 mod scan;
 mod word;
 
-ghost use Rattle.std.specs.Prelude.{◌≤◌, ◌<◌, length};
+ghost use Rattle.std.specs.Prelude.{◌≤◌, ◌<◌, IfOk, length};
 
+use program::read_full;
+use std::io;
 use words::integer::{Amount, amount_of};
 
 // How long the text of the first case is.
@@ -20,45 +22,46 @@ fn text_length(input: &[u8]) -> usize
     }
 }
 
-fn run(what: u8, text: &[u8]) {
+fn run(rt: &impl Print, what: u8, text: &[u8]) -> io::Result<()> {
     match what {
         b't' => {
-            scan::tokens(text);
-            scan::verdict(text);
+            scan::tokens(rt, text)?;
+            scan::verdict(rt, text)?;
         }
-        b'u' => word::delay(text),
-        _ => word::same(text),
+        b'u' => word::delay(rt, text)?,
+        _ => word::same(rt, text)?,
     }
-    say::bytes(b"\n");
+    say::bytes(rt, b"\n")
 }
 
 // Runs the first case of the input and answers how many bytes it takes: all of them where the case is cut.
-fn run_first(input: &[u8]) -> usize
+fn run_first(rt: &impl Print, input: &[u8]) -> io::Result<usize>
     requires { 0 < length input.now }
-    ensures { (0 < result) × (result ≤ length input.now) }
+    ensures { IfOk result (λ n. (0 < n) × (n ≤ length input.now)) }
 {
     let room = input.len();
     if room < 7 {
-        return room;
+        return Ok(room);
     }
     let n = text_length(input);
     if room - 7 < n {
-        return room;
+        return Ok(room);
     }
     let end = 6 + n;
-    run(input[0], &input[6..end]);
-    end + 1
+    run(rt, input[0], &input[6..end])?;
+    Ok(end + 1)
 }
 
-fn run_all(input: &[u8]) {
+fn run_all(rt: &impl Print, input: &[u8]) -> io::Result<()> {
     let mut i = 0;
     while i < input.len() {
-        i += run_first(&input[i..]);
+        i += run_first(rt, &input[i..])?;
     }
+    Ok(())
 }
 
-fn main() {
-    let mut input = io::large_buffer();
-    let n = io::read_full(libc::STDIN_FILENO, &mut input);
-    run_all(&input[..n]);
+fn main(rt: HostRuntime) -> io::Result<()> {
+    let mut input = [0u8; 65536];
+    let n = read_full(&mut rt.stdin(), &mut input)?;
+    run_all(&rt, &input[..n])
 }

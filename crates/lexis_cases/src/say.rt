@@ -1,12 +1,14 @@
 // What is printed, to standard output.
-pub fn bytes(text: &[u8]) {
-    io::write_all(libc::STDOUT_FILENO, text);
+use std::io;
+
+pub fn bytes(rt: &impl Print, text: &[u8]) -> io::Result<()> {
+    rt.write_all(text)
 }
 
-pub fn number(n: u64) {
-    io::print_decimal(libc::STDOUT_FILENO, n);
+pub fn number(rt: &impl Print, n: u64) -> io::Result<()> {
+    rt.print(n)
 }
 
-pub fn place(n: usize) {
-    number(n as u64);
+pub fn place(rt: &impl Print, n: usize) -> io::Result<()> {
+    number(rt, n as u64)
 }

@@ -2,6 +2,7 @@
 ghost use Rattle.std.specs.Prelude.{◌≤◌, length};
 
 use crate::say;
+use std::io;
 use words::integer::{Amount, amount_of};
 use words::unit::{Delay, TimeUnit};
 use words::vocabulary::{row_of, same_word};
@@ -20,45 +21,47 @@ fn space_of(text: &[u8]) -> usize
     i
 }
 
-fn femtoseconds(amount: Amount, unit: TimeUnit) {
+fn femtoseconds(rt: &impl Print, amount: Amount, unit: TimeUnit) -> io::Result<()> {
     match amount {
         Amount::Small(n) => match unit.femtoseconds(n) {
-            Delay::Femtoseconds(time) => say::number(time),
-            Delay::TooLong => say::bytes(b"too long"),
+            Delay::Femtoseconds(time) => say::number(rt, time),
+            Delay::TooLong => say::bytes(rt, b"too long"),
         },
-        Amount::Large => say::bytes(b"too long"),
+        Amount::Large => say::bytes(rt, b"too long"),
     }
 }
 
 // The units stand in rows 24 to 31 of the vocabulary.
-fn by_row(amount: Amount, row: usize) {
+fn by_row(rt: &impl Print, amount: Amount, row: usize) -> io::Result<()> {
     match row {
-        24 => femtoseconds(amount, TimeUnit::Fs),
-        25 => femtoseconds(amount, TimeUnit::Ps),
-        26 => femtoseconds(amount, TimeUnit::Ns),
-        27 => femtoseconds(amount, TimeUnit::Us),
-        28 => femtoseconds(amount, TimeUnit::Ms),
-        29 => femtoseconds(amount, TimeUnit::Sec),
-        30 => femtoseconds(amount, TimeUnit::Min),
-        31 => femtoseconds(amount, TimeUnit::Hr),
-        _ => say::bytes(b"no unit"),
+        24 => femtoseconds(rt, amount, TimeUnit::Fs),
+        25 => femtoseconds(rt, amount, TimeUnit::Ps),
+        26 => femtoseconds(rt, amount, TimeUnit::Ns),
+        27 => femtoseconds(rt, amount, TimeUnit::Us),
+        28 => femtoseconds(rt, amount, TimeUnit::Ms),
+        29 => femtoseconds(rt, amount, TimeUnit::Sec),
+        30 => femtoseconds(rt, amount, TimeUnit::Min),
+        31 => femtoseconds(rt, amount, TimeUnit::Hr),
+        _ => say::bytes(rt, b"no unit"),
     }
 }
 
-pub fn delay(text: &[u8]) {
+pub fn delay(rt: &impl Print, text: &[u8]) -> io::Result<()> {
     let space = space_of(text);
     if space < text.len() {
-        by_row(amount_of(&text[0..space]), row_of(&text[space + 1..]));
+        by_row(rt, amount_of(&text[0..space]), row_of(&text[space + 1..]))?;
     }
+    Ok(())
 }
 
-pub fn same(text: &[u8]) {
+pub fn same(rt: &impl Print, text: &[u8]) -> io::Result<()> {
     let space = space_of(text);
     if space < text.len() {
         if same_word(&text[0..space], &text[space + 1..]) {
-            say::bytes(b"same");
+            say::bytes(rt, b"same")?;
         } else {
-            say::bytes(b"different");
+            say::bytes(rt, b"different")?;
         }
     }
+    Ok(())
 }

@@ -9,16 +9,16 @@ ghost use Rattle.machine.specs.Inside.Units.{Planned};
 ghost use Rattle.machine.specs.Inside.Relays.{Relayed};
 ghost use Rattle.player.specs.Inside.Turns.{Went};
 
-use libc::STDOUT_FILENO;
 use program::say_refused;
 use session::{Answer, begin, forward};
+use std::io;
 
 // Writes the first so many bytes.
-fn flush(out: &[u8], count: usize)
+fn flush(rt: &impl Print, out: &[u8], count: usize) -> io::Result<()>
     requires out_len { length out.now ≡ 36864 }
     requires count_bound { count ≤ 36864 }
 {
-    io::write_all(STDOUT_FILENO, &out[..count]);
+    rt.write_all(&out[..count])
 }
 
 // One advance: what it writes goes behind the first so many bytes.
@@ -72,6 +72,7 @@ fn more(count: usize, bytes: usize) -> usize
 // Advances until nothing is pending or the stop is reached. A proved loop has to end, so it counts its turns down, from a number
 // that no run uses up.
 fn go_on(
+    rt: &impl Print,
     cells: &mut [u64; 1152],
     table: &[u64],
     plan: &[u64],
@@ -79,7 +80,7 @@ fn go_on(
     stop: u64,
     out: &mut [u8],
     first: usize,
-)
+) -> io::Result<()>
     requires fit_table_words { FitTableWords table.now }
     requires fit_for { FitFor (signals_of table.now) cells.old }
     requires stop_bound { stop ≤ 1000000000000000000 }
@@ -93,7 +94,7 @@ fn go_on(
     while 0 < turns {
         turns -= 1;
         if 32768 < count {
-            flush(out, count);
+            flush(rt, out, count)?;
             count = 0;
         }
         match take_turn(cells, table, plan, relays, stop, out, count) {
@@ -101,20 +102,25 @@ fn go_on(
                 count = more(count, bytes);
             }
             Turn::Ended => {
-                flush(out, count);
-                return;
+                return flush(rt, out, count);
             }
             Turn::Refused(number) => {
-                flush(out, count);
-                say_refused(number, 0);
-                return;
+                flush(rt, out, count)?;
+                return say_refused(rt, number, 0);
             }
         }
     }
+    Ok(())
 }
 
 // Plays a table with a plan and a list of relays of it.
-fn play_planned(table: &[u64], plan: &[u64], relays: &[u64; 256], stop: u64)
+fn play_planned(
+    rt: &impl Print,
+    table: &[u64],
+    plan: &[u64],
+    relays: &[u64; 256],
+    stop: u64,
+) -> io::Result<()>
     requires fit_table_words { FitTableWords table.now }
     requires stop_bound { stop ≤ 1000000000000000000 }
     requires planned { Planned table.now plan.now }
@@ -130,18 +136,16 @@ fn play_planned(table: &[u64], plan: &[u64], relays: &[u64; 256], stop: u64)
             steps: _,
         } => {
             let count = more(0, bytes);
-            go_on(&mut cells, table, plan, relays, stop, &mut out, count);
+            go_on(rt, &mut cells, table, plan, relays, stop, &mut out, count)
         }
-        Answer::Refused(number) => {
-            say_refused(number, 0);
-        }
-        Answer::Quiet => {}
-        Answer::StopReached => {}
+        Answer::Refused(number) => say_refused(rt, number, 0),
+        Answer::Quiet => Ok(()),
+        Answer::StopReached => Ok(()),
     }
 }
 
 // A plan without a unit would only cost time.
-pub fn play(table: &[u64], stop: u64)
+pub fn play(rt: &impl Print, table: &[u64], stop: u64) -> io::Result<()>
     requires fit_table_words { FitTableWords table.now }
     requires stop_bound { stop ≤ 1000000000000000000 }
 {
@@ -150,8 +154,8 @@ pub fn play(table: &[u64], stop: u64)
     let mut plan = [0u64; 16384];
     let units = plan::make(table, &mut plan);
     if units == 0 {
-        play_planned(table, &table[..0], &relays, stop);
+        play_planned(rt, table, &table[..0], &relays, stop)
     } else {
-        play_planned(table, &plan, &relays, stop);
+        play_planned(rt, table, &plan, &relays, stop)
     }
 }

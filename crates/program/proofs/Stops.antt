@@ -1,11 +1,7 @@
 -- No stop that words say is later than 10^18. Assumes nothing.
-use Prim.Native.Nat.{ℕ, ◌*◌}
-use mathlib.Core.Path.{◌≡◌, sym, subst}
-use mathlib.Core.List.{List}
-use lib.Dec.{eqb, leb}
-use lib.ListN.{length}
-use Rattle.laws.proofs.Picks.{pick_both}
+use Rattle.std.proofs.Common.{ℕ, ◌≡◌, ◌*◌, sym, subst, List, length, eqb, leb}
 use borrow.Author.Tests.{leb-true}
+use Rattle.laws.proofs.Picks.{pick_both}
 use Rattle.words.specs.Integer.{value_of}
 use Rattle.words.specs.Unit.{longest, femtoseconds_of}
 use Rattle.words.specs.declared.unit.Delay.{Delay}

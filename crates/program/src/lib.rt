@@ -1,35 +1,71 @@
-// What the programs share: their stop words, and the line of a refusal.
+// What the programs share: their stop words, the line of a refusal, and how they read their input.
 #![tactic(auto)]
 
+ghost use Rattle.std.specs.Prelude.{◌≤◌, IfOk, length};
 ghost use Rattle.program.specs.Given.{InTime};
 
-use libc::STDOUT_FILENO;
+use std::env::{Env, FillError};
+use std::io;
+use std::io::Read;
 use stop::{Stop, stop_of};
 
 // The line of a refusal, with its place for 2 to 10.
-pub fn say_refused(number: u64, place: usize) {
-    io::write_all(STDOUT_FILENO, b"refused ");
-    io::print_decimal(STDOUT_FILENO, number);
+pub fn say_refused(rt: &impl Print, number: u64, place: usize) -> io::Result<()> {
+    rt.write_all(b"refused ")?;
+    rt.print(number)?;
     if 2 <= number {
         if number <= 10 {
-            io::write_all(STDOUT_FILENO, b" ");
-            io::print_decimal(STDOUT_FILENO, place as u64);
+            rt.write_all(b" ")?;
+            rt.print(place)?;
         }
     }
-    io::write_all(STDOUT_FILENO, b"\n");
+    rt.write_all(b"\n")
+}
+
+// Reads until the buffer is full or the input ends, and answers how many bytes it put at the buffer's start.
+pub fn read_full<R: Read>(input: &mut R, buffer: &mut [u8]) -> io::Result<usize>
+    ensures { IfOk result (λ n. n ≤ length buffer.new) }
+{
+    let mut done = 0;
+    while done < buffer.len() {
+        let n = input.read(&mut buffer[done..])?;
+        if n == 0 {
+            return Ok(done);
+        }
+        done += n;
+    }
+    Ok(done)
+}
+
+// Whether the command has a word at a place; its own name is at 0.
+fn has_word(rt: &impl Env, place: usize) -> bool {
+    match rt.arg(place, &mut []) {
+        Err(FillError::NotPresent) => false,
+        _ => true,
+    }
+}
+
+// Puts a word of the command at the start of a buffer, and answers its length. A word that is longer than the buffer counts as empty.
+fn word(rt: &impl Env, place: usize, buffer: &mut [u8]) -> usize
+    ensures { result ≤ length buffer.new }
+{
+    match rt.arg(place, buffer) {
+        Ok(n) => n,
+        Err(_) => 0,
+    }
 }
 
 // The stop that the two argument words say. Linux hands over no argument that is longer than the first buffer, and a word that is
 // longer than the second is no unit: it counts as empty.
-pub fn stop_words() -> Stop
+pub fn stop_words(rt: &impl Env) -> Stop
     ensures { InTime result }
 {
-    if os::arg_count() != 3 {
+    if !has_word(rt, 2) || has_word(rt, 3) {
         return Stop::Refused;
     }
     let mut amount = [0u8; 131072];
     let mut unit = [0u8; 4];
-    let n = os::arg(1, &mut amount);
-    let m = os::arg(2, &mut unit);
+    let n = word(rt, 1, &mut amount);
+    let m = word(rt, 2, &mut unit);
     stop_of(&amount[..n], &unit[..m])
 }

@@ -2,10 +2,12 @@
 // instructions. tests/texts/README.md says how the texts stand there, and where the expected lines come from.
 #![tactic(auto)]
 
-ghost use Rattle.std.specs.Prelude.{◌≤◌, ◌<◌, length};
+ghost use Rattle.std.specs.Prelude.{◌≤◌, ◌<◌, IfOk, length};
 
-use libc::{STDIN_FILENO, STDOUT_FILENO};
+use program::read_full;
 use reader::{Tabled, read};
+use std::io;
+use std::io::Read;
 use words::integer::{Amount, amount_of};
 
 // The value of digits, where it is below 100,000.
@@ -18,36 +20,36 @@ fn number(digits: &[u8]) -> usize
     }
 }
 
-fn say_number(n: u64) {
-    io::write_all(STDOUT_FILENO, b" ");
-    io::print_decimal(STDOUT_FILENO, n);
+fn say_number(rt: &impl Print, n: u64) -> io::Result<()> {
+    rt.write_all(b" ")?;
+    rt.print(n)
 }
 
-fn say_accepted(table: &[u64])
+fn say_accepted(rt: &impl Print, table: &[u64]) -> io::Result<()>
     requires { 3 ≤ length table.now }
 {
-    io::write_all(STDOUT_FILENO, b"accepted");
-    say_number(table[0]);
-    say_number(table[1]);
-    say_number(table[2]);
-    io::write_all(STDOUT_FILENO, b"\n");
+    rt.write_all(b"accepted")?;
+    say_number(rt, table[0])?;
+    say_number(rt, table[1])?;
+    say_number(rt, table[2])?;
+    rt.write_all(b"\n")
 }
 
 // Refusal 1 has no place.
-fn say_refused(number: u64, place: usize) {
-    io::write_all(STDOUT_FILENO, b"refused");
-    say_number(number);
+fn say_refused(rt: &impl Print, number: u64, place: usize) -> io::Result<()> {
+    rt.write_all(b"refused")?;
+    say_number(rt, number)?;
     if number != 1 {
-        say_number(place as u64);
+        say_number(rt, place as u64)?;
     }
-    io::write_all(STDOUT_FILENO, b"\n");
+    rt.write_all(b"\n")
 }
 
-fn answer(text: &[u8]) {
+fn answer(rt: &impl Print, text: &[u8]) -> io::Result<()> {
     let mut table = [0u64; 8387];
     match read(text, &mut table) {
-        Tabled::Written => say_accepted(&table),
-        Tabled::Refused { number, place } => say_refused(number, place),
+        Tabled::Written => say_accepted(rt, &table),
+        Tabled::Refused { number, place } => say_refused(rt, number, place),
     }
 }
 
@@ -63,50 +65,52 @@ fn repeat(text: &mut [u8], from: usize, size: usize, end: usize)
 }
 
 // A piece of the text, from a place on. The answer is where it ends.
-fn piece(text: &mut [u8], start: usize) -> usize
+fn piece<R: Read>(input: &mut R, text: &mut [u8], start: usize) -> io::Result<usize>
     requires { start ≤ length text.old }
-    ensures { result ≤ length text.new }
+    ensures { IfOk result (λ n. n ≤ length text.new) }
 {
     let mut line = [0u8; 12];
-    io::read_full(STDIN_FILENO, &mut line);
+    read_full(input, &mut line)?;
     let times = number(&line[0..5]);
     let size = number(&line[6..11]);
     if text.len() - start < size {
-        return start;
+        return Ok(start);
     }
     if text.len() - start < times * size {
-        return start;
+        return Ok(start);
     }
-    io::read_full(STDIN_FILENO, &mut text[start..start + size]);
-    io::read_full(STDIN_FILENO, &mut line[0..1]);
+    read_full(input, &mut text[start..start + size])?;
+    read_full(input, &mut line[0..1])?;
     let end = start + times * size;
     repeat(text, start + size, size, end);
-    end
+    Ok(end)
 }
 
 // The next text, and whether there was one.
-fn next_text(text: &mut [u8]) -> bool {
+fn next_text<R: Read>(rt: &impl Print, input: &mut R, text: &mut [u8]) -> io::Result<bool> {
     let mut line = [0u8; 10];
-    if io::read_full(STDIN_FILENO, &mut line) < 10 {
-        return false;
+    if read_full(input, &mut line)? < 10 {
+        return Ok(false);
     }
     let mut pieces = number(&line[5..9]);
     let mut end = 0;
     while 0 < pieces {
-        end = piece(text, end);
+        end = piece(input, text, end)?;
         pieces -= 1;
     }
-    answer(&text[..end]);
-    true
+    answer(rt, &text[..end])?;
+    Ok(true)
 }
 
-fn main() {
+fn main(rt: HostRuntime) -> io::Result<()> {
+    let mut input = rt.stdin();
     let mut text = [0u8; 60001];
     let mut turns: u64 = 100_000;
     while 0 < turns {
-        if !next_text(&mut text) {
-            return;
+        if !next_text(&rt, &mut input, &mut text)? {
+            return Ok(());
         }
         turns -= 1;
     }
+    Ok(())
 }

@@ -3,17 +3,17 @@
 
 mod say;
 
-ghost use Rattle.std.specs.Prelude.{◌≡◌, false, ◌≤◌, length};
+ghost use Rattle.std.specs.Prelude.{◌≡◌, false, ◌≤◌, IfOk, length};
 ghost use Rattle.layout.specs.TableWords.{FitTableWords};
 ghost use Rattle.cells.specs.Cells.{FitFor};
 ghost use Rattle.machine.specs.Inside.Steps.{signals_of};
 ghost use Rattle.machine.specs.Inside.Relays.{Relayed};
 
 use heading::{Headed, header};
-use libc::STDIN_FILENO;
-use program::stop_words;
+use program::{read_full, stop_words};
 use reader::{Tabled, read};
 use session::{Answer, begin, forward};
+use std::io;
 use stop::Stop;
 
 // How many bytes of lines are gathered, and whether the advance was the last.
@@ -25,6 +25,7 @@ struct Told {
 
 // One advance, and its line behind the first so many bytes.
 fn advance(
+    rt: &impl Print,
     cells: &mut [u64; 1152],
     table: &[u64],
     relays: &[u64; 256],
@@ -32,15 +33,15 @@ fn advance(
     out: &mut [u8],
     lines: &mut [u8],
     count: usize,
-) -> Told
+) -> io::Result<Told>
     requires fit_table_words { FitTableWords table.now }
     requires fit_for { FitFor (signals_of table.now) cells.old }
     requires stop_bound { stop ≤ 1000000000000000000 }
     requires out_len { length out.old ≡ 4096 }
     requires count_in_bounds { count ≤ length lines.old }
     requires relayed { Relayed table.now relays.now }
-    ensures fit_for_2 { result.last ≡ false → FitFor (signals_of table.now) cells.new }
-    ensures count_in_bounds_2 { result.count ≤ length lines.new }
+    ensures fit_for_2 { IfOk result (λ told. told.last ≡ false → FitFor (signals_of table.now) cells.new) }
+    ensures count_in_bounds_2 { IfOk result (λ told. told.count ≤ length lines.new) }
 {
     match forward(cells, table, &table[..0], relays, stop, out) {
         Answer::Moves {
@@ -48,31 +49,32 @@ fn advance(
             time,
             cycles,
             steps,
-        } => Told {
+        } => Ok(Told {
             count: say::moved(lines, count, b"advance", bytes, time, cycles, steps),
             last: false,
-        },
+        }),
         Answer::Refused(number) => {
-            say::flush(lines, count);
-            say::refused(b"advance", number, 0);
-            Told {
+            say::flush(rt, lines, count)?;
+            say::refused(rt, b"advance", number, 0)?;
+            Ok(Told {
                 count: 0,
                 last: true,
-            }
+            })
         }
-        Answer::Quiet => Told {
+        Answer::Quiet => Ok(Told {
             count: say::put(lines, count, b"advance quiet bytes 0\n"),
             last: true,
-        },
-        Answer::StopReached => Told {
+        }),
+        Answer::StopReached => Ok(Told {
             count: say::put(lines, count, b"advance stop reached bytes 0\n"),
             last: true,
-        },
+        }),
     }
 }
 
 // Advances up to the last. A proved loop has to end, so it counts its turns down, from a number that no run uses up.
 fn go_on(
+    rt: &impl Print,
     cells: &mut [u64; 1152],
     table: &[u64],
     relays: &[u64; 256],
@@ -80,7 +82,7 @@ fn go_on(
     out: &mut [u8],
     lines: &mut [u8],
     first: usize,
-)
+) -> io::Result<()>
     requires fit_table_words { FitTableWords table.now }
     requires fit_for { FitFor (signals_of table.now) cells.old }
     requires stop_bound { stop ≤ 1000000000000000000 }
@@ -94,20 +96,27 @@ fn go_on(
     while 0 < turns {
         turns -= 1;
         if 32768 < count {
-            say::flush(lines, count);
+            say::flush(rt, lines, count)?;
             count = 0;
         }
-        let told = advance(cells, table, relays, stop, out, lines, count);
+        let told = advance(rt, cells, table, relays, stop, out, lines, count)?;
         count = told.count;
         if told.last {
-            say::flush(lines, count);
-            return;
+            return say::flush(rt, lines, count);
         }
     }
+    Ok(())
 }
 
 // The start and the advances of a table whose relays are listed; the lines go behind the first so many bytes.
-fn run_listed(table: &[u64], relays: &[u64; 256], stop: u64, lines: &mut [u8], count: usize)
+fn run_listed(
+    rt: &impl Print,
+    table: &[u64],
+    relays: &[u64; 256],
+    stop: u64,
+    lines: &mut [u8],
+    count: usize,
+) -> io::Result<()>
     requires fit_table_words { FitTableWords table.now }
     requires stop_bound { stop ≤ 1000000000000000000 }
     requires lines_len { length lines.old ≡ 36864 }
@@ -124,19 +133,19 @@ fn run_listed(table: &[u64], relays: &[u64; 256], stop: u64, lines: &mut [u8], c
             steps,
         } => {
             let first = say::moved(lines, count, b"start", bytes, time, cycles, steps);
-            go_on(&mut cells, table, relays, stop, &mut out, lines, first);
+            go_on(rt, &mut cells, table, relays, stop, &mut out, lines, first)
         }
         Answer::Refused(number) => {
-            say::flush(lines, count);
-            say::refused(b"start", number, 0);
+            say::flush(rt, lines, count)?;
+            say::refused(rt, b"start", number, 0)
         }
-        Answer::Quiet => {}
-        Answer::StopReached => {}
+        Answer::Quiet => Ok(()),
+        Answer::StopReached => Ok(()),
     }
 }
 
 // The start and the advances.
-fn run(table: &[u64], stop: u64, lines: &mut [u8], count: usize)
+fn run(rt: &impl Print, table: &[u64], stop: u64, lines: &mut [u8], count: usize) -> io::Result<()>
     requires fit_table_words { FitTableWords table.now }
     requires stop_bound { stop ≤ 1000000000000000000 }
     requires lines_len { length lines.old ≡ 36864 }
@@ -144,41 +153,41 @@ fn run(table: &[u64], stop: u64, lines: &mut [u8], count: usize)
 {
     let mut relays = [0u64; 256];
     plan::list_relays(table, &mut relays);
-    run_listed(table, &relays, stop, lines, count);
+    run_listed(rt, table, &relays, stop, lines, count)
 }
 
 // The calls of an accepted text, whose header has so many bytes.
-fn translate(text: &[u8], stop: u64, count: usize)
+fn translate(rt: &impl Print, text: &[u8], stop: u64, count: usize) -> io::Result<()>
     requires { stop ≤ 1000000000000000000 }
 {
     let mut table = [0u64; 8387];
     match read(text, &mut table) {
-        Tabled::Refused { number, place } => say::refused(b"header", number, place),
+        Tabled::Refused { number, place } => say::refused(rt, b"header", number, place),
         Tabled::Written => {
             let mut lines = [0u8; 36864];
             let first = say::header(&mut lines, count);
-            run(&table, stop, &mut lines, first);
+            run(rt, &table, stop, &mut lines, first)
         }
     }
 }
 
-fn show(text: &[u8], stop: u64)
+fn show(rt: &impl Print, text: &[u8], stop: u64) -> io::Result<()>
     requires { stop ≤ 1000000000000000000 }
 {
     let mut out = [0u8; 4096];
     match header(text, &mut out) {
-        Headed::Refused { number, place } => say::refused(b"header", number, place),
-        Headed::Written(count) => translate(text, stop, count),
+        Headed::Refused { number, place } => say::refused(rt, b"header", number, place),
+        Headed::Written(count) => translate(rt, text, stop, count),
     }
 }
 
-fn main() {
-    match stop_words() {
-        Stop::Refused => say::refused(b"stop words", 12, 0),
+fn main(rt: HostRuntime) -> io::Result<()> {
+    match stop_words(&rt) {
+        Stop::Refused => say::refused(&rt, b"stop words", 12, 0),
         Stop::At(stop) => {
             let mut text = [0u8; 60001];
-            let n = io::read_full(STDIN_FILENO, &mut text);
-            show(&text[..n], stop);
+            let n = read_full(&mut rt.stdin(), &mut text)?;
+            show(&rt, &text[..n], stop)
         }
     }
 }

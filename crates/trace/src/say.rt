@@ -2,8 +2,9 @@
 // no room nothing is put, but a line is short, and the buffer is emptied before so little is left.
 ghost use Rattle.std.specs.Prelude.{◌≤◌, length};
 
-use libc::STDOUT_FILENO;
+use itoa::Buffer;
 use program::say_refused;
+use std::io;
 use writing::copy;
 
 pub fn put(lines: &mut [u8], at: usize, text: &[u8]) -> usize
@@ -21,10 +22,9 @@ fn number(lines: &mut [u8], at: usize, name: &[u8], n: u64) -> usize
     requires { at ≤ length lines.old }
     ensures { result ≤ length lines.new }
 {
-    let mut digits = [0u8; 20];
-    let k = io::decimal(n, &mut digits);
+    let mut digits = Buffer::new();
     let a = put(lines, at, name);
-    put(lines, a, &digits[..k])
+    put(lines, a, digits.format(n).as_bytes())
 }
 
 pub fn header(lines: &mut [u8], count: usize) -> usize
@@ -55,15 +55,15 @@ pub fn moved(
 }
 
 // Writes the first so many bytes.
-pub fn flush(lines: &[u8], count: usize)
+pub fn flush(rt: &impl Print, lines: &[u8], count: usize) -> io::Result<()>
     requires { count ≤ length lines.now }
 {
-    io::write_all(STDOUT_FILENO, &lines[..count]);
+    rt.write_all(&lines[..count])
 }
 
 // The line of a refusal, which is the last.
-pub fn refused(call: &[u8], number: u64, place: usize) {
-    io::write_all(STDOUT_FILENO, call);
-    io::write_all(STDOUT_FILENO, b" ");
-    say_refused(number, place);
+pub fn refused(rt: &impl Print, call: &[u8], number: u64, place: usize) -> io::Result<()> {
+    rt.write_all(call)?;
+    rt.write_all(b" ")?;
+    say_refused(rt, number, place)
 }

@@ -1,0 +1,9 @@
+-- `lexis_cases::run_all`: the place stays within the input, and each case takes it further.
+use Rattle.std.proofs.Common.{length, ◌-◌, ◌≤◌}
+use Rattle.lexis_cases.proofs.run_all.Given as goal
+
+abbrev pub invariant-loop-i : goal.invariant-loop-i
+invariant-loop-i g l = l.i ≤ length l.input
+
+abbrev pub decreases-loop-i : goal.decreases-loop-i
+decreases-loop-i g l = length l.input - l.i

@@ -1,0 +1,7 @@
+-- `trace::advance` meets its contract: an advance that moved leaves cells that are fit.
+-- Assumes nothing.
+use Rattle.player.proofs.Moving.{moved_fit}
+use Rattle.trace.proofs.advance.Goals as goal
+
+pub returns-in-Moves-clause-fit_for_2 : goal.returns-in-Moves-clause-fit_for_2
+returns-in-Moves-clause-fit_for_2 g c = λ _. moved_fit _ _ _ _ _ _ _ _ _ _ _ (c.forward.ensures 0) c.in-Moves.is
