@@ -45,8 +45,8 @@ pub fn fresh() -> [u64; 328]
 
 // The name is that of a signal or a label.
 fn is_used(text: &[u8], ledger: &[u64; 328], start: usize, end: usize) -> bool
-    requires shelf { Shelf text.now ledger.now 6 (get_or ledger.now 2 0) }
-    requires shelf_2 { Shelf text.now ledger.now 134 (get_or ledger.now 3 0) }
+    requires signals { Shelf text.now ledger.now 6 (get_or ledger.now 2 0) }
+    requires labels { Shelf text.now ledger.now 134 (get_or ledger.now 3 0) }
     requires span { Span text.now start end }
     ensures { result ≡ used_in text.now ledger.now (name_at text.now start end) }
 {

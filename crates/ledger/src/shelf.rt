@@ -10,8 +10,8 @@ use words::vocabulary::same_word;
 // The name kept at a place of the ledger is the one from start to end.
 fn is_same(text: &[u8], ledger: &[u64; 328], at: usize, start: usize, end: usize) -> bool
     requires ledger_len { (length ledger.now ≡ 328) × (at + 1 < 328) }
-    requires span { Span text.now (get_or ledger.now at 0) (get_or ledger.now (at + 1) 0) }
-    requires span_2 { Span text.now start end }
+    requires kept { Span text.now (get_or ledger.now at 0) (get_or ledger.now (at + 1) 0) }
+    requires asked { Span text.now start end }
     ensures { result ≡ same_word (part text.now (get_or ledger.now at 0) (get_or ledger.now (at + 1) 0)) (part text.now start end) }
 {
     let from = ledger[at] as usize;

@@ -46,7 +46,7 @@ fn take_turn(
     requires planned { Planned table.now plan.now }
     requires relayed { Relayed table.now relays.now }
     ensures went { Went (signals_of table.now) result cells.new }
-    ensures out_len_2 { length out.new ≡ 36864 }
+    ensures out_keeps { length out.new ≡ 36864 }
 {
     match forward(cells, table, plan, relays, stop, &mut out[count..]) {
         Answer::Moves {

@@ -1,7 +1,7 @@
 // What the programs share: their stop words, the line of a refusal, and how they read their input.
 #![tactic(auto)]
 
-ghost use Rattle.std.specs.Prelude.{◌≤◌, IfOk, length};
+ghost use Rattle.std.specs.Prelude.{◌≡◌, ◌≤◌, IfOk, OnErr, length};
 ghost use Rattle.program.specs.Given.{InTime};
 
 use std::env::{Env, FillError};
@@ -24,7 +24,8 @@ pub fn say_refused(rt: &impl Print, number: u64, place: usize) -> io::Result<()>
 
 // Reads until the buffer is full or the input ends, and answers how many bytes it put at the buffer's start.
 pub fn read_full<R: Read>(input: &mut R, buffer: &mut [u8]) -> io::Result<usize>
-    ensures { IfOk result (λ n. n ≤ length buffer.new) }
+    ensures within { IfOk result (λ n. n ≤ length buffer.new) }
+    ensures err { OnErr result (length buffer.new ≡ length buffer.old) }
 {
     let mut done = 0;
     while done < buffer.len() {

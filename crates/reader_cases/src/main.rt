@@ -2,7 +2,7 @@
 // instructions. tests/texts/README.md says how the texts stand there, and where the expected lines come from.
 #![tactic(auto)]
 
-ghost use Rattle.std.specs.Prelude.{◌≤◌, ◌<◌, IfOk, length};
+ghost use Rattle.std.specs.Prelude.{◌≡◌, ◌≤◌, ◌<◌, IfOk, OnErr, length};
 
 use program::read_full;
 use reader::{Tabled, read};
@@ -67,7 +67,8 @@ fn repeat(text: &mut [u8], from: usize, size: usize, end: usize)
 // A piece of the text, from a place on. The answer is where it ends.
 fn piece<R: Read>(input: &mut R, text: &mut [u8], start: usize) -> io::Result<usize>
     requires { start ≤ length text.old }
-    ensures { IfOk result (λ n. n ≤ length text.new) }
+    ensures within { IfOk result (λ n. n ≤ length text.new) }
+    ensures err { OnErr result (length text.new ≡ length text.old) }
 {
     let mut line = [0u8; 12];
     read_full(input, &mut line)?;

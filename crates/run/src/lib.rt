@@ -49,8 +49,8 @@ fn store(words: &mut [u64], count: u64, time: u64, cells: &[u64; 1152])
 // The start, where the table is known to be fit.
 pub fn start_fit(table: &[u64], words: &mut [u64], out: &mut [u8]) -> Answer
     requires fit_table_words { FitTableWords table.now }
-    requires in_bounds { 1154 ≤ length words.old }
-    requires in_bounds_2 { 4096 ≤ length out.old }
+    requires words_in_bounds { 1154 ≤ length words.old }
+    requires out_in_bounds { 4096 ≤ length out.old }
     ensures { (f : FitTableWords table.now) → Gives (calls.start (runners f.table) f.table.initial) words.old out.old result words.new out.new }
 {
     let mut cells = [0u64; 1152];

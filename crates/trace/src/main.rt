@@ -3,7 +3,7 @@
 
 mod say;
 
-ghost use Rattle.std.specs.Prelude.{◌≡◌, false, ◌≤◌, IfOk, length};
+ghost use Rattle.std.specs.Prelude.{◌≡◌, false, ◌≤◌, IfOk, OnErr, length};
 ghost use Rattle.layout.specs.TableWords.{FitTableWords};
 ghost use Rattle.cells.specs.Cells.{FitFor};
 ghost use Rattle.machine.specs.Inside.Steps.{signals_of};
@@ -40,8 +40,9 @@ fn advance(
     requires out_len { length out.old ≡ 4096 }
     requires count_in_bounds { count ≤ length lines.old }
     requires relayed { Relayed table.now relays.now }
-    ensures fit_for_2 { IfOk result (λ told. told.last ≡ false → FitFor (signals_of table.now) cells.new) }
-    ensures count_in_bounds_2 { IfOk result (λ told. told.count ≤ length lines.new) }
+    ensures goes_on { IfOk result (λ told. told.last ≡ false → FitFor (signals_of table.now) cells.new) }
+    ensures err { OnErr result (length lines.new ≡ length lines.old) }
+    ensures lines_in_bounds { IfOk result (λ told. told.count ≤ length lines.new) }
 {
     match forward(cells, table, &table[..0], relays, stop, out) {
         Answer::Moves {

@@ -9,7 +9,7 @@ pub returns-then-ledger-ne0 : goal.returns-then-ledger-ne0
 returns-then-ledger-ne0 c = stays c.if-ledger-ne0.true
 
 pub is_used-requires : goal.is_used-requires
-is_used-requires c = let s = (standing c.requires.sound c.if-ledger-ne0.false).stands in record { shelf = s.signals; shelf_2 = s.labels; span = c.requires.span }
+is_used-requires c = let s = (standing c.requires.sound c.if-ledger-ne0.false).stands in record { signals = s.signals; labels = s.labels; span = c.requires.span }
 
 pub refuse-requires : goal.refuse-requires
 refuse-requires c = sound-size c.requires.sound

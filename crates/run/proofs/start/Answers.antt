@@ -16,7 +16,7 @@ pub returns-then-not-fit_table : goal.returns-then-not-fit_table
 returns-then-not-fit_table c = starts-unfit c.args.table.now c.args.words.now c.args.out.now (long-enough c.args.table.now c.args.words.now c.args.out.now c.if-table-lt8387.false c.if-words-lt1154.false c.if-out-lt4096.false) (c.fit_table.ensures.fails (not-true _ c.if-not-fit_table.true-raw))
 
 pub start_fit-requires : goal.start_fit-requires
-start_fit-requires c = record { fit_table_words = (c.fit_table.ensures.holds (not-false _ c.if-not-fit_table.false-raw)); in_bounds = c.if-words-lt1154.false; in_bounds_2 = c.if-out-lt4096.false }
+start_fit-requires c = record { fit_table_words = (c.fit_table.ensures.holds (not-false _ c.if-not-fit_table.false-raw)); words_in_bounds = c.if-words-lt1154.false; out_in_bounds = c.if-out-lt4096.false }
 
 pub returns : goal.returns
 returns c = starts-runs c.args.table.now c.args.words.now c.args.out.now _ _ _ (long-enough c.args.table.now c.args.words.now c.args.out.now c.if-table-lt8387.false c.if-words-lt1154.false c.if-out-lt4096.false) (c.fit_table.ensures.holds (not-false _ c.if-not-fit_table.false-raw)) (c.start_fit.ensures (c.fit_table.ensures.holds (not-false _ c.if-not-fit_table.false-raw)))

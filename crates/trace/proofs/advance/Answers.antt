@@ -3,5 +3,5 @@
 use Rattle.player.proofs.Moving.{moved_fit}
 use Rattle.trace.proofs.advance.Goals as goal
 
-pub returns-in-Moves-clause-fit_for_2 : goal.returns-in-Moves-clause-fit_for_2
-returns-in-Moves-clause-fit_for_2 g c = λ _. moved_fit _ _ _ _ _ _ _ _ _ _ _ (c.forward.ensures 0) c.in-Moves.is
+pub returns-in-Moves-clause-goes_on : goal.returns-in-Moves-clause-goes_on
+returns-in-Moves-clause-goes_on g c = λ _. moved_fit _ _ _ _ _ _ _ _ _ _ _ (c.forward.ensures 0) c.in-Moves.is

@@ -13,7 +13,7 @@ pub loop-i-init : goal.loop-i-init
 loop-i-init c = (omega arith, find_first c.args.text.now c.args.ledger.now c.args.base c.args.count (name_at c.args.text.now c.args.start c.args.end))
 
 pub is_same-requires : goal.is_same-requires
-is_same-requires c = record { ledger_len = (c.requires.shelf.size, omega arith); span = c.requires.shelf.spans c.loop-i.i c.loop-i-test.true; span_2 = c.requires.span }
+is_same-requires c = record { ledger_len = (c.requires.shelf.size, omega arith); kept = c.requires.shelf.spans c.loop-i.i c.loop-i-test.true; asked = c.requires.span }
 
 pub returns-then-is_same : goal.returns-then-is_same
 unfolding name_at
