@@ -3,7 +3,7 @@
 
 usage: tools/respell.py        at the top of the repository: rewrites crates/ and the names that docs/ and README.md quote, and prints what it changed
 
-Words become snake case, and a dash stays only between two names of definitions (`length-tabulate`); types, modules, constructors that begin with a
+Words become snake case, variables and other names of what is imported too, and a dash stays only between two names of definitions (`length-tabulate`); types, modules, constructors that begin with a
 capital, and names of Rattle source stay. A lemma that would have a definition's name gets `_lem`.
 """
 import os
@@ -94,6 +94,14 @@ def main():
             renamed[name] = new
     for name in kept:
         print("kept: %s" % name)
+    # What is left are variables, and other names of what is imported.
+    texts = [read(p) for p in list(files(".antt")) + list(files(".rt", ("src",)))]
+    quoted = {w for text in texts for s in re.findall(r'"[^"\n]*"', text) for w in TOKEN.findall(s)}
+    aliases = {a for text in texts for a in re.findall(r" as (\w+)[,}]", text)}
+    for name in sorted((used | imported | aliases) - quoted):
+        if re.fullmatch(r"[a-z]\w*[A-Z]\w*", name) and name not in renamed:
+            new = snake(name)
+            renamed[name] = new if new not in used and new not in own and new not in renamed.values() else "the_" + new
     turn = lambda text: TOKEN.sub(lambda m: renamed.get(m[0], m[0]), text)
     changed = 0
     for path in list(files(".antt")) + list(files(".rt", ("src",))) + list(files(".edit", ("must-fail",))):

@@ -38,10 +38,10 @@ pub advance-small : {table session out session_left out_left : List ℕ} {stop :
 advance-small s = subst Small (sym s.gives.answer) (small_of s.says (advance-writes s.due))
 
 -- the answer's number and the report, as they stand in the code
-module _ (table session out report session_left out_left reportLeft : List ℕ) (a : Answer) (r : ℕ) (long : 3 ≤ length report)
-    (number : r ≡ code_of a) (left : reportLeft ≡ report_after a report) where
-  pub in_c_start : Starts table session out a session_left out_left → StartsInC table session out report r session_left out_left reportLeft
+module _ (table session out report session_left out_left report_left : List ℕ) (a : Answer) (r : ℕ) (long : 3 ≤ length report)
+    (number : r ≡ code_of a) (left : report_left ≡ report_after a report) where
+  pub in_c_start : Starts table session out a session_left out_left → StartsInC table session out report r session_left out_left report_left
   in_c_start s = rw (number, left) (starts a long s)
 
-  pub in_c_advance : (stop : ℕ) → Advances table session out stop a session_left out_left → AdvancesInC table session stop out report r session_left out_left reportLeft
+  pub in_c_advance : (stop : ℕ) → Advances table session out stop a session_left out_left → AdvancesInC table session stop out report r session_left out_left report_left
   in_c_advance stop s = rw (number, left) (advances a long s)

@@ -6,7 +6,7 @@ use mathlib.Core.List.{List}
 use native.Mathlib.Omega.{arith}
 use Rattle.names.proofs.Places.{refused-number, refused-early}
 use Rattle.reader.specs.declared.Tabled.{Tabled}
-use Rattle.reader.specs.declared.Tabled.TheVariants.{Written as tableWritten, Refused as tableRefused}
+use Rattle.reader.specs.declared.Tabled.TheVariants.{Written as table_written, Refused as table_refused}
 use Rattle.reader.specs.Tabled.{Tables}
 use Rattle.reader.specs.Tabled as tabled
 use Rattle.heading.specs.declared.Headed.{Headed}
@@ -21,14 +21,14 @@ unread_small (tabled.RefusedWith.short h) = (omega arith, omega arith)
 unread_small {text} (tabled.RefusedWith.turned h g) = (omega (arith, (refused-number text g).1), refused-early text g)
 
 module _ (text table after : List ℕ) (a : Tabled) (h : Tables text table a after) where
-  pub unread_fits : {number place : ℕ} → a ≡ tableRefused number place → (number ≤ 11) × (place ≤ 60000)
+  pub unread_fits : {number place : ℕ} → a ≡ table_refused number place → (number ≤ 11) × (place ≤ 60000)
   unread_fits e = unread_small (subst (λ b. Tables text table b after) e h).0
 
-  pub read_in_c : a ≡ tableWritten → ReadsInC text table 0 after
-  read_in_c e = reads tableWritten (subst (λ b. Tables text table b after) e h)
+  pub read_in_c : a ≡ table_written → ReadsInC text table 0 after
+  read_in_c e = reads table_written (subst (λ b. Tables text table b after) e h)
 
-  pub unread_in_c : {number place r : ℕ} → a ≡ tableRefused number place → r ≡ number + 256 * place → ReadsInC text table r after
-  unread_in_c e n = rw n (reads (tableRefused _ _) (subst (λ b. Tables text table b after) e h))
+  pub unread_in_c : {number place r : ℕ} → a ≡ table_refused number place → r ≡ number + 256 * place → ReadsInC text table r after
+  unread_in_c e n = rw n (reads (table_refused _ _) (subst (λ b. Tables text table b after) e h))
 
 -- A HEADER
 

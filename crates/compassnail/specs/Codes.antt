@@ -6,26 +6,26 @@ use Rattle.session.specs.declared.Answer.{Answer}
 use Rattle.session.specs.declared.Answer.TheVariants.{Refused, Quiet, StopReached, Moves}
 use Rattle.run.specs.Lent.{Starts, Advances}
 use Rattle.reader.specs.declared.Tabled.{Tabled}
-use Rattle.reader.specs.declared.Tabled.TheVariants.{Written as tableWritten, Refused as tableRefused}
+use Rattle.reader.specs.declared.Tabled.TheVariants.{Written as table_written, Refused as table_refused}
 use Rattle.reader.specs.Tabled.{Tables}
 use Rattle.heading.specs.declared.Headed.{Headed}
-use Rattle.heading.specs.declared.Headed.TheVariants.{Written as headerWritten, Refused as headerRefused}
+use Rattle.heading.specs.declared.Headed.TheVariants.{Written as header_written, Refused as header_refused}
 use Rattle.heading.specs.Headed.{Heads}
 
 -- A TEXT'S TABLE
 
 abbrev pub table_code : Tabled → ℕ
-table_code tableWritten = 0
-table_code (tableRefused number place) = number + 256 * place
+table_code table_written = 0
+table_code (table_refused number place) = number + 256 * place
 
 pub data ReadsInC (text table : List ℕ) : ℕ → List ℕ → Type 0 where
-  reads : {tableLeft : List ℕ} (a : Tabled) → Tables text table a tableLeft → ReadsInC text table (table_code a) tableLeft
+  reads : {table_left : List ℕ} (a : Tabled) → Tables text table a table_left → ReadsInC text table (table_code a) table_left
 
 -- A TEXT'S HEADER
 
 abbrev pub header_code : Headed → ℕ
-header_code (headerWritten bytes) = 256 * bytes
-header_code (headerRefused number place) = number + 256 * place
+header_code (header_written bytes) = 256 * bytes
+header_code (header_refused number place) = number + 256 * place
 
 pub data HeadsInC (text out : List ℕ) : ℕ → List ℕ → Type 0 where
   heads : {out_left : List ℕ} (a : Headed) → Heads text out a out_left → HeadsInC text out (header_code a) out_left
@@ -66,10 +66,10 @@ Small Quiet = Unit {0}
 Small StopReached = Unit {0}
 Small (Moves bytes time cycles steps) = bytes ≤ 4096
 
-header_of_a : header_code (headerWritten 122) ≡ 31232
+header_of_a : header_code (header_written 122) ≡ 31232
 header_of_a = refl
 
-third_at_20 : header_code (headerRefused 3 20) ≡ 5123
+third_at_20 : header_code (header_refused 3 20) ≡ 5123
 third_at_20 = refl
 
 moved_17 : code_of (Moves 17 0 1 6) ≡ 4352

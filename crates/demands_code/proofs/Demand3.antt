@@ -78,7 +78,7 @@ module _ (text : List ℕ) (d : Design) (accepted : Gets text (accepts d)) (tabl
       subst (λ o. Gives o session out answer session_left out_left) (e ∙ same.starts) s.gives
 
   -- an advance from any session that is fit, over the statements as written
-  module _ (stop : ℕ) (inSize : stop ≤ longest) (s : Session) (fit : FitSession (written (circuit_of d)) (length (circuit_of d).initial) s) where
+  module _ (stop : ℕ) (in_size : stop ≤ longest) (s : Session) (fit : FitSession (written (circuit_of d)) (length (circuit_of d).initial) s) where
     abbrev fit_there : FitSession (runners (translate (circuit_of d))) (length (translate (circuit_of d)).initial) s
     fit_there = (same.sessions s).1 fit
 
@@ -87,14 +87,14 @@ module _ (text : List ℕ) (d : Design) (accepted : Gets text (accepts d)) (tabl
         → Gives (advance (written (circuit_of d)) stop s) session out answer session_left out_left
     code-advance session out session_left out_left answer long holds a =
         let words : FitSessionWords (translate (circuit_of d)) session = record { session = s; holds = holds; fit = fit_there } in
-        let e = advance-once table session out stop a.says (advance (runners (translate (circuit_of d))) stop s) a.due (lent.AdvanceDue.runs long inSize fit_words words) in
+        let e = advance-once table session out stop a.says (advance (runners (translate (circuit_of d))) stop s) a.due (lent.AdvanceDue.runs long in_size fit_words words) in
         subst (λ o. Gives o session out answer session_left out_left) (e ∙ same.advances stop s) a.gives
 
     -- what an advance answers over the statements leaves a session that is fit again
     abbrev fit_answer : AnswersFit (written (circuit_of d)) (length (circuit_of d).initial) (advance (written (circuit_of d)) stop s)
     fit_answer = fits-here (advance (written (circuit_of d)) stop s)
         (subst (AnswersFit (runners (translate (circuit_of d))) (length (translate (circuit_of d)).initial)) (same.advances stop s)
-        (fit-advance (translate (circuit_of d)) same.fit stop s inSize fit_there))
+        (fit-advance (translate (circuit_of d)) same.fit stop s in_size fit_there))
 
   -- any number of advances: each gives what the rules give on the statements, from the session that the one before left
   pub code-calls : (more : List Call) (s : Session) (session : List ℕ) → FitSession (written (circuit_of d)) (length (circuit_of d).initial) s
@@ -128,6 +128,6 @@ module _ (text : List ℕ) (d : Design) (accepted : Gets text (accepts d)) (tabl
   as_written = record { fit = fit_words; starts = code-start; advances = code-advance; runs = code-run }
 
 -- demand 3: where a text is read, start and advance give over the words read what the rules give on its statements
-pub demand_3 : (text table tableLeft : List ℕ) (t : Translates text table tableLeft) → Gets text (accepts t.tree) × AsWritten (circuit_of t.tree) tableLeft
-demand_3 text table tableLeft t =
-    (t.gets, as_written text t.tree t.gets tableLeft (subst (λ w. HoldsTable w (translate (circuit_of t.tree))) (sym t.words) (holds-table_words (translate (circuit_of t.tree)) (drop table_size table))))
+pub demand_3 : (text table table_left : List ℕ) (t : Translates text table table_left) → Gets text (accepts t.tree) × AsWritten (circuit_of t.tree) table_left
+demand_3 text table table_left t =
+    (t.gets, as_written text t.tree t.gets table_left (subst (λ w. HoldsTable w (translate (circuit_of t.tree))) (sym t.words) (holds-table_words (translate (circuit_of t.tree)) (drop table_size table))))

@@ -13,7 +13,7 @@ use Rattle.laws.proofs.Ranges.{Ranged, ranged, below, inside, above, within-belo
 use Rattle.words.specs.Token.{Token, Chain, NOT, OPEN, CLOSE, chain}
 use Rattle.syntax.specs.Tree.{Design, expression, alone, joined, chained, enough, more, plain, negated, named, constant, bracketed}
 use Rattle.syntax.proofs.Machine.{Values, Step, weights}
-use Rattle.syntax.proofs.Rows.{Place, in_brackets, Symbol, Value, next, a_primary, a_factor, an_end, any_once, any_chain, the_chain, the_fixed, an_expression as expressionAt, a_tail as tail_at, a_more as more_at}
+use Rattle.syntax.proofs.Rows.{Place, in_brackets, Symbol, Value, next, a_primary, a_factor, an_end, any_once, any_chain, the_chain, the_fixed, an_expression as expression_at, a_tail as tail_at, a_more as more_at}
 use Rattle.syntax.proofs.Nesting.{weight}
 use Rattle.syntax.proofs.Theorem.{run}
 use Rattle.syntax.proofs.Missing as missing
@@ -73,7 +73,7 @@ chain-operation k lo hi = go (k - 18) (omega arith)
 
 -- what a bracket does
 abbrev bracket_step : Step Value a_primary
-bracket_step = record { push = expressionAt in_brackets ∷ []; build = λ ws. bracketed ws.0.0 }
+bracket_step = record { push = expression_at in_brackets ∷ []; build = λ ws. bracketed ws.0.0 }
 
 module _ {s : List ℕ} {room : ℕ} {p : Spot} {l v : List ℕ} {t : Look} (h : p.at ≤ length s) (f : p.number ≡ 0) (e : t ≡ look_of s p.at) where
   -- PRIMARY
@@ -168,13 +168,13 @@ module _ {s : List ℕ} {room : ℕ} {p : Spot} {l v : List ℕ} {t : Look} (h :
 
 -- EXPRESSION
 
-first_run : (ts : List Token) (c : Place) (ss : List Symbol) (k : Values Value (expressionAt c ∷ ss) → Design)
-    → run ts (expressionAt c ∷ ss) k ≡ run ts (a_factor ∷ tail_at c ∷ ss) (λ vs. k ((expression vs.0 vs.1.0.0, vs.1.0.1), vs.1.1))
+first_run : (ts : List Token) (c : Place) (ss : List Symbol) (k : Values Value (expression_at c ∷ ss) → Design)
+    → run ts (expression_at c ∷ ss) k ≡ run ts (a_factor ∷ tail_at c ∷ ss) (λ vs. k ((expression vs.0 vs.1.0.0, vs.1.0.1), vs.1.1))
 first_run [] c ss k = refl
 first_run (t ∷ ts) c ss k = missing.expression_first t ts ss c k
 
-first_moves : (s : List ℕ) (p : Spot) (c : Place) (ss : List Symbol) (k : Values Value (expressionAt c ∷ ss) → Design)
-    → verdict s p (expressionAt c ∷ ss) k ≡ verdict s p (a_factor ∷ tail_at c ∷ ss) (λ vs. k ((expression vs.0 vs.1.0.0, vs.1.0.1), vs.1.1))
+first_moves : (s : List ℕ) (p : Spot) (c : Place) (ss : List Symbol) (k : Values Value (expression_at c ∷ ss) → Design)
+    → verdict s p (expression_at c ∷ ss) k ≡ verdict s p (a_factor ∷ tail_at c ∷ ss) (λ vs. k ((expression vs.0 vs.1.0.0, vs.1.0.1), vs.1.1))
 unfolding verdict machine
 first_moves s p c ss k = rw (first_run (map (λ p. p.token) (tokens_from s p.at)) c ss k)
 

@@ -2,7 +2,7 @@
 #![tactic(auto)]
 
 ghost use Rattle.std.specs.Prelude.{◌∷◌, [], ◌+◌, ◌≤◌, ◌<◌, length};
-ghost use Rattle.words.specs.Vocabulary.{lower as lowerCase};
+ghost use Rattle.words.specs.Vocabulary.{lower as lower_case};
 ghost use Rattle.rules.specs.Sizes.{buffer_bytes};
 ghost use Rattle.rules.specs.Dump.{variables};
 ghost use Rattle.reader.specs.Inside.Designs.{Survey};
@@ -29,7 +29,7 @@ pub enum Headed {
 // Copies a name in lower case.
 fn copy_lower(out: &mut [u8], at: usize, run: &[u8]) -> usize
     requires { at + length run.now ≤ length out.old }
-    ensures { Writes out.old at (lowerCase run.now) result out.new }
+    ensures { Writes out.old at (lower_case run.now) result out.new }
 {
     let mut i = 0;
     while i < run.len() {

@@ -19,14 +19,14 @@ use Rattle.lexis.specs.declared.byte.Class.TheVariants.{Letter, Digit, Underscor
 use Rattle.lexis.specs.declared.blank.Step.{Step}
 use Rattle.lexis.specs.declared.blank.Step.TheVariants.{Pass, Stop, Refuse}
 use Rattle.lexis.specs.declared.blank.Skipped.{Skipped}
-use Rattle.lexis.specs.declared.blank.Skipped.TheVariants.{To, Refused as skipRefused}
+use Rattle.lexis.specs.declared.blank.Skipped.TheVariants.{To, Refused as skip_refused}
 use Rattle.lexis.specs.declared.run.Shape.{Shape}
 use Rattle.lexis.specs.declared.run.Shape.TheVariants.{Word, Integer, Broken}
 use Rattle.lexis.specs.declared.token.Kind.TheVariants.{Open, Close, Comma, Colon, Semicolon, Arrow, Becomes}
 use Rattle.lexis.specs.declared.token.Lexeme.{Lexeme}
 use Rattle.lexis.specs.declared.token.Lexeme.TheVariants.{Token as lexeme, Nothing, Refused}
 use Rattle.lexis.specs.declared.token.Scan.{Scan}
-use Rattle.lexis.specs.declared.token.Scan.TheVariants.{Token as scanned, End, Refused as scanRefused}
+use Rattle.lexis.specs.declared.token.Scan.TheVariants.{Token as scanned, End, Refused as scan_refused}
 
 -- RUNS
 
@@ -47,9 +47,9 @@ run_some (b ∷ s) z t = rw t (omega (arith, (run-within (0 + 1) s).0))
 
 abbrev pub place_of : Skipped → ℕ
 place_of (To n) = n
-place_of (skipRefused n) = n
+place_of (skip_refused n) = n
 
-on_step_lem : (r : Step) (p q : Skipped) (i k : ℕ) → place_of p ≤ k → place_of q ≤ k → i ≤ k → place_of (on_step r p q (To i) (skipRefused i)) ≤ k
+on_step_lem : (r : Step) (p q : Skipped) (i k : ℕ) → place_of p ≤ k → place_of q ≤ k → i ≤ k → place_of (on_step r p q (To i) (skip_refused i)) ≤ k
 on_step_lem (Pass true) p q i k a b h = a
 on_step_lem (Pass false) p q i k a b h = b
 on_step_lem Stop p q i k a b h = h
@@ -120,7 +120,7 @@ lexeme_fits s =
 abbrev pub Within : ℕ → Scan → Type 0
 Within n (scanned kind start length) = (0 < length) × (start + length ≤ n)
 Within n End = Unit {0}
-Within n (scanRefused place) = place ≤ n
+Within n (scan_refused place) = place ≤ n
 
 placed-within : (n i : ℕ) (x : Lexeme) → i ≤ n → Fits (n - i) x → Within n (placed_at i x)
 placed-within n i (lexeme kind l) h f = (f.0, omega (arith, f.1))
@@ -130,7 +130,7 @@ placed-within n i Refused h f = h
 on_skipped_lem : (r : Skipped) (s : List ℕ) → place_of r ≤ length s → Within (length s) (on_skipped r s)
 on_skipped_lem (To n) s h =
     placed-within (length s) n (lexeme_of (drop n s)) h (subst (λ (m : ℕ). Fits m (lexeme_of (drop n s))) (length-drop n s) (lexeme_fits (drop n s)))
-on_skipped_lem (skipRefused n) s h = h
+on_skipped_lem (skip_refused n) s h = h
 
 pub scan_within : (s : List ℕ) → Within (length s) (scan_of s)
 unfolding scan_of

@@ -20,7 +20,7 @@ use Rattle.lexis.specs.Token.{mark_of, run_token, lexeme_of, placed_at, on_skipp
 use Rattle.lexis.specs.declared.byte.Class.{Class}
 use Rattle.lexis.specs.declared.byte.Class.TheVariants.{Letter, Digit, Underscore, Space, LineEnd, Mark, Other, High}
 use Rattle.lexis.specs.declared.blank.Skipped.{Skipped}
-use Rattle.lexis.specs.declared.blank.Skipped.TheVariants.{To, Refused as skipRefused}
+use Rattle.lexis.specs.declared.blank.Skipped.TheVariants.{To, Refused as skip_refused}
 use Rattle.lexis.specs.declared.run.Shape.{Shape}
 use Rattle.lexis.specs.declared.run.Shape.TheVariants.{Word as word, Integer as digits, Broken as broken}
 use Rattle.lexis.specs.declared.token.Kind.{Kind}
@@ -28,7 +28,7 @@ use Rattle.lexis.specs.declared.token.Kind.TheVariants.{Word, Integer, Open, Clo
 use Rattle.lexis.specs.declared.token.Lexeme.{Lexeme}
 use Rattle.lexis.specs.declared.token.Lexeme.TheVariants.{Token as lexeme, Nothing, Refused}
 use Rattle.lexis.specs.declared.token.Scan.{Scan}
-use Rattle.lexis.specs.declared.token.Scan.TheVariants.{Token as scanned, End, Refused as scanRefused}
+use Rattle.lexis.specs.declared.token.Scan.TheVariants.{Token as scanned, End, Refused as scan_refused}
 use Rattle.lexis.proofs.Bounds.{run-within}
 
 -- a token's name, if it is one, is short
@@ -108,7 +108,7 @@ ShortLexeme Refused = Unit {0}
 abbrev ShortScan : Scan → Type 0
 ShortScan (scanned k n l) = k ≡ Word → l ≤ longest_word
 ShortScan End = Unit {0}
-ShortScan (scanRefused p) = Unit {0}
+ShortScan (scan_refused p) = Unit {0}
 
 abbrev ShortShape : ℕ → Shape → Type 0
 ShortShape l word = l ≤ longest_word
@@ -185,7 +185,7 @@ placed-short n Refused h = tt
 
 skipped-short : (r : Skipped) (s : List ℕ) → ShortScan (on_skipped r s)
 skipped-short (To n) s = placed-short n (lexeme_of (drop n s)) (lexeme_short (drop n s))
-skipped-short (skipRefused n) s = tt
+skipped-short (skip_refused n) s = tt
 
 scan_short : (s : List ℕ) → ShortScan (scan_of s)
 unfolding scan_of
@@ -209,7 +209,7 @@ tokens-short (suc f) i s = go (scan_of s) (scan_short s) (λ n. tokens-short f (
     go (scanned k n l) h more =
         (token-short k (take l (drop n s)) (λ e. let p = h e in omega (arith, length-take l (drop n s))), more (n + l))
     go End h more = tt
-    go (scanRefused p) h more = tt
+    go (scan_refused p) h more = tt
 
 pub short-names : (text : List ℕ) → ShortNames (tokens_in (tokens_of text))
 unfolding tokens_of

@@ -13,7 +13,7 @@ use Rattle.lexis.specs.Blank.{skip_from}
 use Rattle.lexis.specs.Token.{lexeme_of}
 use Rattle.lexis.specs.declared.token.Kind.{Kind}
 use Rattle.lexis.specs.declared.token.Scan.{Scan}
-use Rattle.lexis.specs.declared.token.Scan.TheVariants.{Token as scanned, End, Refused as scanRefused}
+use Rattle.lexis.specs.declared.token.Scan.TheVariants.{Token as scanned, End, Refused as scan_refused}
 use Rattle.lexis.specs.declared.token.Refusal.{Refusal}
 use Rattle.lexis.specs.declared.token.Refusal.TheVariants.{At, Nowhere}
 use Rattle.lexis.proofs.Bounds.{Within, scan_within}
@@ -36,7 +36,7 @@ module _ {A : Type 0} (found : Placed → A → A) (ended : A) (refused : ℕ �
           let w : (0 < l) × (n + l ≤ length s) = subst (Within (length s)) e (scan_within s) in
           rw e (ap (found (placed_token i k n l s)) (again (i + (n + l)) (drop (n + l) s) (rw length-drop (omega arith)) (rw length-drop (omega arith))))
       by_scan again End e = rw e
-      by_scan again (scanRefused p) e = rw e
+      by_scan again (scan_refused p) e = rw e
 
   module _ (i : ℕ) (s : List ℕ) where
     pub made-token : (k : Kind) (n l : ℕ) → scan_of s ≡ scanned k n l
@@ -51,7 +51,7 @@ module _ {A : Type 0} (found : Placed → A → A) (ended : A) (refused : ℕ �
     unfolding over_text
     made_end e = rw (add-one, e)
 
-    pub made-refused : (p : ℕ) → scan_of s ≡ scanRefused p → made i s ≡ refused (i + p)
+    pub made-refused : (p : ℕ) → scan_of s ≡ scan_refused p → made i s ≡ refused (i + p)
     unfolding over_text
     made-refused p e = rw (add-one, e)
 
@@ -77,7 +77,7 @@ module _ (s : List ℕ) (n : ℕ) where
   pub refused_end : scan_of (drop n s) ≡ End → refused_at n (drop n s) ≡ Nowhere
   refused_end = made_end (λ token rest. rest) Nowhere At n (drop n s)
 
-  pub refused-place : (p : ℕ) → scan_of (drop n s) ≡ scanRefused p → refused_at n (drop n s) ≡ At (n + p)
+  pub refused-place : (p : ℕ) → scan_of (drop n s) ≡ scan_refused p → refused_at n (drop n s) ≡ At (n + p)
   refused-place = made-refused (λ token rest. rest) Nowhere At n (drop n s)
 
   pub refused_none : length s ≤ n → refused_at n (drop n s) ≡ Nowhere

@@ -20,7 +20,7 @@ class_of byte =
     (pick (leb 128 byte) High Other))))))))))
 
 -- one answer for each class
-abbrev pub by_class : {A : Type 0} → Class → (letter digit underscore space lineEnd mark other high : A) → A
+abbrev pub by_class : {A : Type 0} → Class → (letter digit underscore space line_end mark other high : A) → A
 by_class Letter l d u s e m o h = l
 by_class Digit l d u s e m o h = d
 by_class Underscore l d u s e m o h = u

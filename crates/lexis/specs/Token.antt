@@ -9,7 +9,7 @@ use Rattle.lexis.specs.Byte.{class_of, by_class}
 use Rattle.lexis.specs.Blank.{skip_from}
 use Rattle.lexis.specs.Run.{run_length, shape_of}
 use Rattle.lexis.specs.declared.blank.Skipped.{Skipped}
-use Rattle.lexis.specs.declared.blank.Skipped.TheVariants.{To, Refused as skipRefused}
+use Rattle.lexis.specs.declared.blank.Skipped.TheVariants.{To, Refused as skip_refused}
 use Rattle.lexis.specs.declared.run.Shape.{Shape}
 use Rattle.lexis.specs.declared.run.Shape.TheVariants.{Word as word, Integer as digits, Broken as broken}
 use Rattle.lexis.specs.declared.token.Kind.{Kind}
@@ -17,7 +17,7 @@ use Rattle.lexis.specs.declared.token.Kind.TheVariants.{Word, Integer, Open, Clo
 use Rattle.lexis.specs.declared.token.Lexeme.{Lexeme}
 use Rattle.lexis.specs.declared.token.Lexeme.TheVariants.{Token as lexeme, Nothing, Refused}
 use Rattle.lexis.specs.declared.token.Scan.{Scan}
-use Rattle.lexis.specs.declared.token.Scan.TheVariants.{Token as scanned, End, Refused as scanRefused}
+use Rattle.lexis.specs.declared.token.Scan.TheVariants.{Token as scanned, End, Refused as scan_refused}
 use Rattle.lexis.specs.declared.token.Refusal.{Refusal}
 use Rattle.lexis.specs.declared.token.Refusal.TheVariants.{At, Nowhere}
 
@@ -47,11 +47,11 @@ lexeme_of text =
 abbrev pub placed_at : ℕ → Lexeme → Scan
 placed_at start (lexeme kind length) = scanned kind start length
 placed_at start Nothing = End
-placed_at start Refused = scanRefused start
+placed_at start Refused = scan_refused start
 
 abbrev pub on_skipped : Skipped → List ℕ → Scan
 on_skipped (To n) text = placed_at n (lexeme_of (drop n text))
-on_skipped (skipRefused n) text = scanRefused n
+on_skipped (skip_refused n) text = scan_refused n
 
 -- the first token of a text
 unfoldable pub scan_of : List ℕ → Scan
@@ -82,7 +82,7 @@ placed_token i kind start length text = record { token = token_of kind (take len
 abbrev pub on_scan : {A : Type 0} → Scan → (token : Kind → ℕ → ℕ → A) (ended : A) (refused : ℕ → A) → A
 on_scan (scanned kind start length) token ended refused = token kind start length
 on_scan End token ended refused = ended
-on_scan (scanRefused place) token ended refused = refused place
+on_scan (scan_refused place) token ended refused = refused place
 
 -- what is made of a text that starts at place i: of each token and what is made of the rest, of the end, of the first refused place.
 -- A scan that finds a token takes at least a byte, so that one more scan than there are bytes is enough

@@ -9,7 +9,7 @@ use mathlib.Core.List.{List, [], ◌∷◌, map}
 use lib.ListN.{length, get_or, drop, length-drop}
 use Rattle.lexis.specs.Token.{Placed, scan_of, on_scan, over_text, first_refused, tokens_of, placed_token}
 use Rattle.lexis.specs.declared.token.Scan.{Scan}
-use Rattle.lexis.specs.declared.token.Scan.TheVariants.{Token as scanned, End, Refused as scanRefused}
+use Rattle.lexis.specs.declared.token.Scan.TheVariants.{Token as scanned, End, Refused as scan_refused}
 use Rattle.lexis.specs.declared.token.Refusal.{Refusal}
 use Rattle.lexis.specs.declared.token.Refusal.TheVariants.{At, Nowhere}
 use Rattle.lexis.proofs.Bounds.{Within, scan_within}
@@ -37,7 +37,7 @@ refused_up_to (suc scans) i n s h = by_scan (refused_up_to scans) (scan_of s) (s
         → RefusedUpTo n (on_scan r (λ kind start size. refused_over scans (i + (start + size)) (drop (start + size) s)) Nowhere (λ place. At (i + place)))
     by_scan again (scanned kind a l) w = again (i + (a + l)) n (drop (a + l) s) (rw length-drop (omega (arith, w.1)))
     by_scan again End w = tt
-    by_scan again (scanRefused p) w = omega (arith, w)
+    by_scan again (scan_refused p) w = omega (arith, w)
 
 abbrev tokens_over : (scans i : ℕ) → List ℕ → List Placed
 tokens_over = over_text (λ token rest. token ∷ rest) [] (λ place. [])
@@ -56,7 +56,7 @@ starts_up_to (suc scans) i n k s h = by_scan (starts_up_to scans) (scan_of s) (s
     by_scan again (scanned kind a l) w zero = omega (arith, w.1)
     by_scan again (scanned kind a l) w (suc q) = again (i + (a + l)) n q (drop (a + l) s) (rw length-drop (omega (arith, w.1)))
     by_scan again End w q = omega arith
-    by_scan again (scanRefused p) w q = omega arith
+    by_scan again (scan_refused p) w q = omega arith
 
 first_within : (text : List ℕ) (p : ℕ) → first_refused text ≡ At p → p ≤ length text
 unfolding first_refused

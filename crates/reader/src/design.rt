@@ -1,6 +1,6 @@
 // The whole text: refusals 1 to 10.
 ghost use Rattle.std.specs.Prelude.{◌≡◌, List, ℕ, ◌≤◌, ◌<◌, length};
-ghost use Rattle.syntax.proofs.Rows.{Part, a_name, part_word, closing as closingPart};
+ghost use Rattle.syntax.proofs.Rows.{Part, a_name, part_word, closing as closing_part};
 ghost use Rattle.look.specs.Inside.Looks.{name_at};
 ghost use Rattle.look.proofs.Numbers.{fixed_kind};
 ghost use Rattle.ledger.specs.Inside.Standing.{Sound, Keeps, Span, name_option};
@@ -51,7 +51,7 @@ fn closing(
     to: usize,
 ) -> Spot
     requires { Ready 0 text.now p ledger.old × Span text.now from to × (kind < 117) }
-    ensures { (u : Part) → kind ≡ fixed_kind (part_word u) → (v : List ℕ) → Reads (whole (closingPart u) (closing_part_roles (name_option text.now from to)) silent) text.now 32 p result ledger.old ledger.new v v }
+    ensures { (u : Part) → kind ≡ fixed_kind (part_word u) → (v : List ℕ) → Reads (whole (closing_part u) (closing_part_roles (name_option text.now from to)) silent) text.now 32 p result ledger.old ledger.new v v }
 {
     if p.number != 0 {
         return p;

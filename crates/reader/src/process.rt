@@ -1,6 +1,6 @@
 // Processes.
 ghost use Rattle.std.specs.Prelude.{◌≡◌, List, ℕ, ◌≤◌, length};
-ghost use Rattle.syntax.proofs.Rows.{a_name, more_listed, closing_name, process_body, processes, beginning as beginningSymbol};
+ghost use Rattle.syntax.proofs.Rows.{a_name, more_listed, closing_name, process_body, processes, beginning as beginning_symbol};
 ghost use Rattle.look.specs.Inside.Looks.{look_of};
 ghost use Rattle.ledger.specs.Inside.Standing.{Span, name_option};
 ghost use Rattle.emission.specs.Inside.Draft.{with_listener, processes_draft};
@@ -83,7 +83,7 @@ fn list(text: &[u8], ledger: &mut [u64; 328], table: &mut [u64], p: Spot) -> Spo
 // [`is`] `begin`
 fn beginning(text: &[u8], p: Spot) -> Spot
     requires { p.at ≤ length text.now }
-    ensures { (l v : List ℕ) → Reads (whole beginningSymbol beginning_roles silent) text.now 32 p result l l v v }
+    ensures { (l v : List ℕ) → Reads (whole beginning_symbol beginning_roles silent) text.now 32 p result l l v v }
 {
     if p.number != 0 {
         return p;

@@ -11,7 +11,7 @@ use Rattle.layout.specs.TableWords.{FitTableWords}
 use Rattle.layout.specs.SessionWords.{FitSessionWords}
 use Rattle.layout.proofs.Tables.{table_of_fit_words}
 use Rattle.layout.proofs.Sessions.{session_of_fit_words}
-use Rattle.session.specs.Answers.{answer_of, outAfter}
+use Rattle.session.specs.Answers.{answer_of, out_after}
 use Rattle.session.specs.declared.Answer.{Answer}
 use Rattle.run.specs.Lent.{words_after, StartDue, AdvanceDue, Starts, Advances}
 use Rattle.run.specs.Lent as lent
@@ -76,7 +76,7 @@ one_start tb ws bs r q us vs cs ds a b =
     record {
       answer = a.gives.answer ∙ ap answer_of e ∙ sym b.gives.answer;
       session = a.gives.session ∙ ap (λ o. words_after o ws) e ∙ sym b.gives.session;
-      bytes = a.gives.bytes ∙ ap (λ o. outAfter o bs) e ∙ sym b.gives.bytes;
+      bytes = a.gives.bytes ∙ ap (λ o. out_after o bs) e ∙ sym b.gives.bytes;
     }
 
 pub one_advance : (tb ws bs : List ℕ) (stop : ℕ) (r q : Answer) (us vs cs ds : List ℕ) → Advances tb ws bs stop r us cs → Advances tb ws bs stop q vs ds
@@ -86,5 +86,5 @@ one_advance tb ws bs stop r q us vs cs ds a b =
     record {
       answer = a.gives.answer ∙ ap answer_of e ∙ sym b.gives.answer;
       session = a.gives.session ∙ ap (λ o. words_after o ws) e ∙ sym b.gives.session;
-      bytes = a.gives.bytes ∙ ap (λ o. outAfter o bs) e ∙ sym b.gives.bytes;
+      bytes = a.gives.bytes ∙ ap (λ o. out_after o bs) e ∙ sym b.gives.bytes;
     }

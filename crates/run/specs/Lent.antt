@@ -9,7 +9,7 @@ use Rattle.rules.specs.Calls as calls
 use Rattle.table.specs.Table.{runners}
 use Rattle.layout.specs.TableWords.{table_size, FitTableWords}
 use Rattle.layout.specs.SessionWords.{session_size, session_words, FitSessionWords}
-use Rattle.session.specs.Answers.{answer_of, outAfter}
+use Rattle.session.specs.Answers.{answer_of, out_after}
 use Rattle.session.specs.declared.Answer.{Answer}
 
 -- the session's words after a call: those of the session that it leaves, where it moved; the words behind them stay
@@ -45,7 +45,7 @@ pub data AdvanceDue (table session out : List ℕ) (stop : ℕ) : calls.Answer �
 pub record Gives (o : calls.Answer) (before out : List ℕ) (r : Answer) (session_left out_left : List ℕ) : Type 0 where
   pub answer : r ≡ answer_of o
   pub session : session_left ≡ words_after o before
-  pub bytes : out_left ≡ outAfter o out
+  pub bytes : out_left ≡ out_after o out
 
 pub record Starts (table session out : List ℕ) (r : Answer) (session_left out_left : List ℕ) : Type 0 where
   pub says : calls.Answer

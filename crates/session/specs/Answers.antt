@@ -15,15 +15,15 @@ answer_of stop_reached = StopReached
 answer_of (moved m) = Moves (length m.bytes) m.session.time m.cycles m.steps
 
 -- the output buffer after a call: the bytes that it wrote, from the first place on; those behind them stay
-abbrev pub outAfter : calls.Answer → List ℕ → List ℕ
-outAfter (refused r) out = out
-outAfter quiet out = out
-outAfter stop_reached out = out
-outAfter (moved m) out = sets out 0 m.bytes
+abbrev pub out_after : calls.Answer → List ℕ → List ℕ
+out_after (refused r) out = out
+out_after quiet out = out
+out_after stop_reached out = out
+out_after (moved m) out = sets out 0 m.bytes
 
 -- refused 16, and nothing is written
 refused-16 : answer_of (refused 16) ≡ Refused 16
 refused-16 = refl
 
-untouched : outAfter (refused 16) (1 ∷ 2 ∷ []) ≡ 1 ∷ 2 ∷ []
+untouched : out_after (refused 16) (1 ∷ 2 ∷ []) ≡ 1 ∷ 2 ∷ []
 untouched = refl

@@ -19,7 +19,7 @@ use Rattle.syntax.specs.Tree.{Design, Expression, immediate, after, Statements, 
 use Rattle.table.specs.Instructions.{Instruction}
 use Rattle.syntax.specs.Sentence.{most_open}
 use Rattle.syntax.proofs.Machine.{Values, Step, weights}
-use Rattle.syntax.proofs.Rows.{in_assignment, in_condition, Block, in_process, in_then, in_else, Closing, Symbol, Value, rows, next, an_integer, a_unit, the_word, statements, closing_if, an_end, the_fixed, an_expression as expressionAt}
+use Rattle.syntax.proofs.Rows.{in_assignment, in_condition, Block, in_process, in_then, in_else, Closing, Symbol, Value, rows, next, an_integer, a_unit, the_word, statements, closing_if, an_end, the_fixed, an_expression as expression_at}
 use Rattle.syntax.proofs.Nesting.{weight, block_weight}
 use Rattle.syntax.proofs.Missing as missing-laws
 use Rattle.names.specs.Roles.{Role, assigns, counts, delays, passes}
@@ -70,7 +70,7 @@ onto-done (also s ss) = ap (also s) (onto-done ss)
 -- what `if` does
 abbrev if_step : (c : Block) → Step Value (statements c)
 if_step c = record {
-  push = expressionAt in_condition ∷ statements in_then ∷ statements c ∷ [];
+  push = expression_at in_condition ∷ statements in_then ∷ statements c ∷ [];
   build = λ ws. (also (conditional ws.0.0 ws.1.0.0 ws.1.0.1) ws.1.1.0.0, ws.1.1.0.1);
 }
 
@@ -214,12 +214,12 @@ module _ {s : List ℕ} {room : ℕ} {p : Spot} {l v : List ℕ} {t : Look} (h :
         inside = o.inside;
         moves = λ c ss g u. some_moves s p f n (statements c) x
             record {
-              push = the_word ARROW ∷ the_word TRANSPORT ∷ expressionAt in_assignment ∷ statements c ∷ [];
+              push = the_word ARROW ∷ the_word TRANSPORT ∷ expression_at in_assignment ∷ statements c ∷ [];
               build = λ ws. (also (assignment (name_at s t.start t.end) ws.1.1.0.0 ws.1.1.0.1) ws.1.1.1.0.0, ws.1.1.1.0.1);
             }
             (ap (next (statements c)) (name-seen s t k)) ss g (omega arith)
-            ∙ w1.moves (the_word ARROW) record { push = []; build = λ _. tt } refl (only-word s (past t n) ARROW) (the_word TRANSPORT ∷ expressionAt in_assignment ∷ statements c ∷ ss) _ (omega arith)
-            ∙ w2.moves (the_word TRANSPORT) record { push = []; build = λ _. tt } refl (only-word s a TRANSPORT) (expressionAt in_assignment ∷ statements c ∷ ss) _ (omega arith)
+            ∙ w1.moves (the_word ARROW) record { push = []; build = λ _. tt } refl (only-word s (past t n) ARROW) (the_word TRANSPORT ∷ expression_at in_assignment ∷ statements c ∷ ss) _ (omega arith)
+            ∙ w2.moves (the_word TRANSPORT) record { push = []; build = λ _. tt } refl (only-word s a TRANSPORT) (expression_at in_assignment ∷ statements c ∷ ss) _ (omega arith)
             ∙ d.moves in_assignment (statements c ∷ ss) _ (omega arith)
             ∙ o.moves tt (statements c ∷ ss) _ (omega arith)
             ∙ to_address s r m (statements c ∷ ss) _;

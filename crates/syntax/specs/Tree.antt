@@ -71,9 +71,9 @@ pub data Process : Type 0 where
 -- design: `entity` name `is` `end` [`entity`] [name] `;`
 -- then `architecture` name `of` name `is` {signal} `begin` {process} `end` [`architecture`] [name] `;` and end of text
 pub data Design : Type 0 where
-  design : (entity : Name) (entityWord : Bool) (entityClosing : Option Name)
+  design : (entity : Name) (entity_word : Bool) (entity_closing : Option Name)
       (architecture of : Name) (declarations : List Declaration) (processes : List Process)
-      (architectureWord : Bool) (architectureClosing : Option Name) → Design
+      (architecture_word : Bool) (architecture_closing : Option Name) → Design
 
 -- TEXTS: the tokens of a tree, in front of the tokens r
 

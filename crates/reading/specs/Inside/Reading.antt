@@ -6,9 +6,9 @@ use Rattle.words.specs.Token.{Name, Chain}
 use Rattle.syntax.specs.Tree.{Expression, Tail, More, Delay, Statements, Statement, Otherwise, done, also, Sensitivity, Declaration, Process, Design}
 use Rattle.syntax.specs.Sentence.{most_open}
 use Rattle.syntax.proofs.Machine.{Values, Step, made, weights}
-use Rattle.syntax.proofs.Rows.{Place, Block, in_process, Closing, Symbol, Value, a_name, processes, process_body, beginning, statements, an_expression as expressionAt, a_tail as tail_at, a_more as more_at, an_end}
+use Rattle.syntax.proofs.Rows.{Place, Block, in_process, Closing, Symbol, Value, a_name, processes, process_body, beginning, statements, an_expression as expression_at, a_tail as tail_at, a_more as more_at, an_end}
 use Rattle.syntax.proofs.Nesting.{weight}
-use Rattle.names.specs.Roles.{Role, expression_roles, tail_roles, more_roles, statements_roles, statement_roles, otherwise_roles, delay_roles, sensitivity_roles, process_roles, processes_roles, declarations_roles, comma_roles, word_roles, closing_roles, initial_roles as initialValueRoles, declares, listens, belongs, opens, passes}
+use Rattle.names.specs.Roles.{Role, expression_roles, tail_roles, more_roles, statements_roles, statement_roles, otherwise_roles, delay_roles, sensitivity_roles, process_roles, processes_roles, declarations_roles, comma_roles, word_roles, closing_roles, initial_roles as initial_value_roles, declares, listens, belongs, opens, passes}
 use Rattle.look.specs.Inside.Looks.{name_at, look_of}
 use Rattle.emission.specs.Inside.Draft.{Draft, expression_draft, tail_draft, more_draft, statements_draft, statement_draft, sensitivity_draft, process_draft, each_draft, with_name, with_listener, with_initial, with_process, with_end}
 use Rattle.ledger.specs.Inside.Standing.{Sound}
@@ -53,7 +53,7 @@ Context (closes b f g) = Unit
 
 abbrev pub top : (w : What) → Context w → Symbol
 top (whole X f g) c = X
-top an_expression c = expressionAt c
+top an_expression c = expression_at c
 top a_tail c = tail_at c
 top a_statement b = statements b
 top some_statements b = statements b
@@ -121,7 +121,7 @@ abbrev pub declares_roles : Name → List Role → List Role
 declares_roles n r = declares n ∷ r
 
 abbrev pub initial_roles : Option Bool → List Role → List Role
-initial_roles i r = initialValueRoles i (passes ∷ r)
+initial_roles i r = initial_value_roles i (passes ∷ r)
 
 abbrev pub more_signals_roles : List Name × Option Bool → List Role → List Role
 more_signals_roles v r = comma_roles declares v.0 (passes ∷ passes ∷ initial_roles v.1 r)

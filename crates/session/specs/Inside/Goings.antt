@@ -7,7 +7,7 @@ use Rattle.layout.proofs.Tables.{decode_table}
 use Rattle.cells.specs.Cells.{values, pendings, FitFor}
 use Rattle.machine.specs.Inside.Steps.{signals_of}
 use Rattle.cycles.specs.Inside.Turns.{session_of}
-use Rattle.session.specs.Answers.{answer_of, outAfter}
+use Rattle.session.specs.Answers.{answer_of, out_after}
 use Rattle.session.specs.declared.Answer.{Answer}
 
 -- a refused call leaves cells that are of no use, one that was quiet or reached the stop leaves them as they were
@@ -20,7 +20,7 @@ CellsAfter (moved m) n cells left = (m.session ≡ session_of m.session.time n l
 pub record GoesAs (o : calls.Answer) (n : ℕ) (cells out : List ℕ) (r : Answer) (left after : List ℕ) : Type 0 where
   pub answer : r ≡ answer_of o
   pub session : CellsAfter o n cells left
-  pub bytes : after ≡ outAfter o out
+  pub bytes : after ≡ out_after o out
 
 -- the cells of a session at the start
 pub record Fresh (tb cells : List ℕ) : Type 0 where

@@ -4,7 +4,7 @@ use mathlib.Core.Path.{refl, sym, ap, ◌∙◌}
 use native.Mathlib.Omega.{arith}
 use Rattle.laws.proofs.Lists.{rest}
 use Rattle.lexis.specs.Token.{scan_of, first_refused}
-use Rattle.lexis.specs.declared.token.Scan.TheVariants.{Token as scanned, Refused as scanRefused}
+use Rattle.lexis.specs.declared.token.Scan.TheVariants.{Token as scanned, Refused as scan_refused}
 use Rattle.lexis.proofs.Bounds.{rest-within}
 use Rattle.lexis.proofs.Scans.{refused-token, refused_end, refused-place, refused_none}
 use Rattle.lexis.proofs.token.first_refused.Goals as goal
@@ -42,7 +42,7 @@ returns-in-End c = sym (refused_end c.args.text.now c.loop-n.n (ap scan_of (sym 
 
 pub overflow_add-result : goal.overflow_add-result
 overflow_add-result c =
-    let w = rest-within c.args.text.now c.loop-n.n (scanRefused c.in-Refused.p) (ap scan_of (sym (rest c.args.text.now c.loop-n.n)) ∙ sym c.next.ensures ∙ c.in-Refused.is) in
+    let w = rest-within c.args.text.now c.loop-n.n (scan_refused c.in-Refused.p) (ap scan_of (sym (rest c.args.text.now c.loop-n.n)) ∙ sym c.next.ensures ∙ c.in-Refused.is) in
     omega arith
 
 pub returns-in-Refused : goal.returns-in-Refused
