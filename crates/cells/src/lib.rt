@@ -114,7 +114,7 @@ pub fn one(k: u64) -> u64
 }
 
 // A time, and a word of the signals that have a change then.
-#[derive(Drop)]
+#[derive(Clone, Copy)]
 struct Earliest {
     time: u64,
     due: u64,
@@ -157,7 +157,7 @@ fn earlier(cells: &[u64; 1152], signal: usize, bit: u64, time: u64, due: u64) ->
 }
 
 // What comes next for so many signals.
-#[derive(Drop)]
+#[derive(Clone, Copy)]
 pub enum Coming {
     Nothing,
     At { time: u64, due: u64 },

@@ -20,7 +20,7 @@ use words::vocabulary::lower;
 use writing::copy;
 
 // How many bytes were written, or the number of the refusal and its place.
-#[derive(Drop)]
+#[derive(Clone, Copy)]
 pub enum Headed {
     Written(usize),
     Refused { number: u64, place: usize },

@@ -5,7 +5,7 @@ ghost use Rattle.lexis.specs.Blank.{dashes_of, step_of, skip_from};
 use crate::byte::{Class, byte_at, class_of};
 
 // What a byte does while blanks and comments are skipped.
-#[derive(Drop)]
+#[derive(Clone, Copy)]
 pub enum Step {
     // It is passed; the bool says whether the next byte is in a comment.
     Pass(bool),
@@ -44,7 +44,7 @@ pub fn step_of(inside: bool, class: Class, dashes: bool) -> Step
 }
 
 // Where blanks and comments end, or a byte in a comment that is refused.
-#[derive(Drop)]
+#[derive(Clone, Copy)]
 pub enum Skipped {
     To(usize),
     Refused(usize),

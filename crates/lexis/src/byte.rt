@@ -2,7 +2,7 @@
 ghost use Rattle.std.specs.Prelude.{◌≡◌, get_or};
 ghost use Rattle.lexis.specs.Byte.{class_of};
 
-#[derive(Drop)]
+#[derive(Clone, Copy)]
 pub enum Class {
     Letter,
     Digit,

@@ -63,7 +63,7 @@ pub fn single_underscores(run: &[u8]) -> bool
     !after
 }
 
-#[derive(Drop)]
+#[derive(Clone, Copy)]
 pub enum Shape {
     Word,
     Integer,

@@ -6,7 +6,7 @@ use crate::blank::{Skipped, skip};
 use crate::byte::{Class, byte_at, class_of};
 use crate::run::{Shape, run_length, shape_of};
 
-#[derive(Drop)]
+#[derive(Clone, Copy)]
 pub enum Kind {
     Word,
     Integer,
@@ -20,7 +20,7 @@ pub enum Kind {
 }
 
 // What stands at the start of a text that no blank and no comment starts: a token with its length.
-#[derive(Drop)]
+#[derive(Clone, Copy)]
 pub enum Lexeme {
     Token(Kind, usize),
     Nothing,
@@ -82,7 +82,7 @@ pub fn lexeme_of(text: &[u8]) -> Lexeme
 }
 
 // What a scan finds: a token with its place and length, the end of the text, or a refused byte or token.
-#[derive(Drop)]
+#[derive(Clone, Copy)]
 pub enum Scan {
     Token {
         kind: Kind,
@@ -118,7 +118,7 @@ pub fn next(text: &[u8]) -> Scan
 }
 
 // Where refusal 2 is due, if anywhere.
-#[derive(Drop)]
+#[derive(Clone, Copy)]
 pub enum Refusal {
     At(usize),
     Nowhere,

@@ -9,7 +9,7 @@ use words::unit::TimeUnit;
 use words::vocabulary::row_of;
 
 // A word of the vocabulary has the number of its row; the rows from 32 to 107 are the words that fit nowhere.
-#[derive(Drop)]
+#[derive(Clone, Copy)]
 pub struct Look {
     pub kind: usize,
     pub start: usize,

@@ -22,7 +22,7 @@ fn flush(rt: &impl Print, out: &[u8], count: usize) -> io::Result<()>
 }
 
 // One advance: what it writes goes behind the first so many bytes.
-#[derive(Drop)]
+#[derive(Clone, Copy)]
 enum Turn {
     Wrote(usize),
     Ended,

@@ -131,7 +131,7 @@ pub fn design(text: &[u8], ledger: &mut [u64; 328], table: &mut [u64]) -> Spot
 }
 
 // Whether a text is accepted, and else the number and the place of its refusal.
-#[derive(Drop)]
+#[derive(Clone, Copy)]
 pub enum Checked {
     Accepted,
     Refused { number: u64, place: usize },

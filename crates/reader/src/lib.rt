@@ -16,7 +16,7 @@ use emission::clear;
 use ledger::{PROCESSES, SIGNALS, fresh};
 
 // Whether the table was written, and else the number and the place of the refusal.
-#[derive(Drop)]
+#[derive(Clone, Copy)]
 pub enum Tabled {
     Written,
     Refused { number: u64, place: usize },

@@ -7,7 +7,7 @@ ghost use Rattle.reading.specs.Inside.Spots.{word_of};
 use look::peek;
 
 // Where reading stands: a place of the text and the address of the next instruction; or refusal 3 or 4 (number) and its place.
-#[derive(Drop)]
+#[derive(Clone, Copy)]
 pub struct Spot {
     pub number: u64,
     pub at: usize,

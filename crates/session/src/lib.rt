@@ -19,7 +19,7 @@ use cycles::Settled;
 use machine::Ran;
 
 // What a call answers.
-#[derive(Drop)]
+#[derive(Clone, Copy)]
 pub enum Answer {
     Refused(u64),
     Quiet,
@@ -146,26 +146,26 @@ pub fn forward(
 }
 
 // A session: how many signals there are, the time, and in one array all that a run changes.
-#[derive(Drop)]
+#[derive(Clone, Copy)]
 pub struct Session {
     pub count: usize,
     pub time: u64,
     pub cells: [u64; 1152],
 }
 
-#[derive(Drop)]
+#[derive(Clone, Copy)]
 pub struct Posted {
     pub ok: bool,
     pub session: Session,
 }
 
-#[derive(Drop)]
+#[derive(Clone, Copy)]
 pub struct Took {
     pub woken: u64,
     pub session: Session,
 }
 
-#[derive(Drop)]
+#[derive(Clone, Copy)]
 pub struct Cycled {
     pub ran: Ran,
     pub session: Session,

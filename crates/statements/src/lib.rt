@@ -16,7 +16,7 @@ use look::{Look, peek, unit_of};
 use reading::{Spot, word};
 
 // Where reading stands behind an assignment, and its delay.
-#[derive(Drop)]
+#[derive(Clone, Copy)]
 pub struct Ending {
     pub spot: Spot,
     pub delay: u64,

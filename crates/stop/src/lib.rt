@@ -10,7 +10,7 @@ use words::unit::{Delay, TimeUnit};
 use words::vocabulary::same_word;
 
 // A unit of time, or a word that is none.
-#[derive(Drop)]
+#[derive(Clone, Copy)]
 pub enum Unit {
     Is(TimeUnit),
     None,
@@ -47,7 +47,7 @@ pub fn unit_of(word: &[u8]) -> Unit
 }
 
 // A stop in femtoseconds, or refusal 12.
-#[derive(Drop)]
+#[derive(Clone, Copy)]
 pub enum Stop {
     At(u64),
     Refused,

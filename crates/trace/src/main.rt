@@ -17,7 +17,7 @@ use std::io;
 use stop::Stop;
 
 // How many bytes of lines are gathered, and whether the advance was the last.
-#[derive(Drop)]
+#[derive(Clone, Copy)]
 struct Told {
     count: usize,
     last: bool,

@@ -6,7 +6,7 @@ ghost use Rattle.words.specs.Integer.{digit_of, value_of, amount_of};
 use crate::unit::{Delay, TimeUnit};
 
 // A value of at most 10^18, or one above it.
-#[derive(Drop)]
+#[derive(Clone, Copy)]
 pub enum Amount {
     Small(u64),
     Large,

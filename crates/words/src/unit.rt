@@ -2,7 +2,7 @@
 ghost use Rattle.std.specs.Prelude.{◌≡◌, ◌<◌};
 ghost use Rattle.words.specs.Unit.{femtoseconds_of, delay_of};
 
-#[derive(Drop)]
+#[derive(Clone, Copy)]
 pub enum TimeUnit {
     Fs,
     Ps,
@@ -15,7 +15,7 @@ pub enum TimeUnit {
 }
 
 // A time in femtoseconds, or one that is above the longest.
-#[derive(Drop)]
+#[derive(Clone, Copy)]
 pub enum Delay {
     Femtoseconds(u64),
     TooLong,
