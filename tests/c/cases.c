@@ -177,7 +177,7 @@ static void cycles(unsigned upto)
 static void places(void)
 {
     for (uint64_t kind = 0; kind < 256; kind++) {
-        uint64_t due = 2 <= kind && kind <= 10;
+        int due = 2 <= kind && kind <= 10;
         expect("places", compassnail_has_place(kind) == due, "at place 0");
         expect("places", compassnail_has_place(kind + 256 * UINT64_C(60000)) == due, "at place 60,000");
     }
