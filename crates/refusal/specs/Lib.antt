@@ -1,0 +1,2 @@
+-- The sixteen reasons of a refusal and their numbers.
+pub mod Numbers
