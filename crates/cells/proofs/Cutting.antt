@@ -1,14 +1,15 @@
--- The loops that cut a signal's later changes and that move its changes down: what they keep, and how the first change goes. Assumes nothing.
+-- The loop that cuts a signal's later changes: what it keeps; and how the first change goes. Assumes nothing.
 use Prim.Native.Nat.{ℕ, suc, ◌+◌, ◌-◌, ◌/◌, ◌<◌, ◌≤◌}
 use mathlib.Core.Path.{◌≡◌, refl, sym, subst, ◌∙◌}
-use mathlib.Core.Logic.{◌⊎◌, ⊎_elim}
+use mathlib.Core.Logic.{⊎_elim}
 use mathlib.Core.List.{List}
 use native.Mathlib.Nat.{eq-or-lt_of_le}
 use native.Mathlib.Omega.{arith}
 use lib.ListN.{length, get_or, set, length-set}
 use lib.Seq.{get_or-set_same, get_or-set_other}
-use Rattle.laws.proofs.Cases.{by}
-use Rattle.cells.specs.Inside.Moves.{Cut, Shifted, Dropped}
+use Rattle.std.specs.List.{CopiedTo, SameBelow, SameFrom}
+use Rattle.laws.proofs.Cases.{by, side}
+use Rattle.cells.specs.Inside.Moves.{Cut, Dropped}
 
 -- a list read downwards: what holds from n on and at n - 1 holds from n - 1 on
 from_one_less :
@@ -70,34 +71,6 @@ module _ (cs : List ℕ) (base n t r : ℕ) (ds : List ℕ) (c : Cutting cs base
   pub cut-none : r ≡ 0 → Cut cs base n t r ds
   cut-none e = record { long = c.long; most = c.most; early = λ i l. absurd (omega arith); late = c.late; gone = c.gone; still = c.still }
 
--- a move down by one
-pub shifted_none : (cs : List ℕ) (base : ℕ) → length cs ≡ 1152 → Shifted cs base 1 cs
-shifted_none cs base h = record { long = h; moved = λ m l. absurd (omega arith); still = λ j out. refl }
-
-pub shifted_more :
-    (cs ds : List ℕ) (base i : ℕ) → 0 < i → base + i ≤ 1152 → Shifted cs base i ds
-    → Shifted cs base (i + 1) (set ds (base + i - 1) (get_or ds (base + i) 0))
-shifted_more cs ds base i pos fits sh =
-    record {
-      long = simp length-set sh.long;
-      moved =
-          λ m l.
-          ⊎_elim
-          (λ (e : m + 1 ≡ i).
-          let q : base + m ≡ base + i - 1 = omega arith in
-          rw (q, get_or-set_same ds (base + i - 1) (get_or ds (base + i) 0) 0 (omega (arith, sh.long)), ← e)
-          (sh.still (base + (m + 1)) (λ u v w. omega arith)))
-          (λ (g : m + 1 < i). get_or-set_other ds (base + i - 1) (base + m) (get_or ds (base + i) 0) 0 (λ e. omega arith) ∙ sh.moved m g)
-          (lt-step m i l);
-      still =
-          λ j out.
-          get_or-set_other ds (base + i - 1) j (get_or ds (base + i) 0) 0 (λ e. out (i - 1) (omega arith) (omega arith))
-          ∙ sh.still j (λ m l e. out m (omega arith) e);
-    }
-  where
-    lt-step : (m i : ℕ) → m + 1 < i + 1 → (m + 1 ≡ i) ⊎ (m + 1 < i)
-    lt-step m i l = eq-or-lt_of_le (omega arith)
-
 -- the first of sixteen cells goes: where it alone may be other than zero, and by a move
 module _ (cs : List ℕ) (base : ℕ) (fits : base + 16 ≤ 1152) where
   pub dropped-only : length cs ≡ 1152 → ((i : ℕ) → 1 ≤ i → i < 16 → get_or cs (base + i) 0 ≡ 0) → Dropped cs base (set cs base 0)
@@ -115,14 +88,23 @@ module _ (cs : List ℕ) (base : ℕ) (fits : base + 16 ≤ 1152) where
           (λ e. let q : base + m ≡ base = omega arith in rw q (get_or-set_same cs base 0 0 (omega arith)))
           (λ ne. get_or-set_other cs base (base + m) 0 0 (λ e. ne (omega arith)) ∙ none m (omega arith) l)
 
-  pub dropped-moved : (ds : List ℕ) → Shifted cs base 16 ds → Dropped cs base (set ds (base + 15) 0)
-  dropped-moved ds sh =
+  pub dropped-moved : (ds : List ℕ) → length ds ≡ 1152 → CopiedTo cs ds (base + 1) base 15 → SameBelow cs ds base
+      → SameFrom cs ds (base + 15) → Dropped cs base (set ds (base + 15) 0)
+  dropped-moved ds long moved low high =
       record {
-        long = simp length-set sh.long;
-        moved = λ m l. get_or-set_other ds (base + 15) (base + m) 0 0 (λ e. omega arith) ∙ sh.moved m (omega arith);
-        last = get_or-set_same ds (base + 15) 0 0 (omega (arith, sh.long));
+        long = simp length-set long;
+        moved = λ m l.
+            let there : base + 1 + (base + m - base) ≡ base + (m + 1) = omega arith in
+            get_or-set_other ds (base + 15) (base + m) 0 0 (λ e. omega arith) ∙ (rw there at (moved (base + m) 0 (omega arith) (omega arith)));
+        last = get_or-set_same ds (base + 15) 0 0 (omega (arith, long));
         still =
             λ z out.
             get_or-set_other ds (base + 15) z 0 0 (λ e. out 15 (omega arith) (sym e))
-            ∙ sh.still z (λ m l e. out m (omega arith) e);
+            ∙ ⊎_elim
+            (λ l. low z 0 l)
+            (λ l. high z 0 (outside z out l))
+            (side z base);
       }
+    where
+      outside : (z : ℕ) → ((m : ℕ) → m < 16 → base + m ≡ z → ⊥) → base ≤ z → base + 15 ≤ z
+      outside z out l = ⊎_elim (λ g. absurd (out (z - base) (omega arith) (omega arith))) (λ g. g) (side z (base + 15))

@@ -6,6 +6,7 @@ pub mod Cutting
 pub mod Posting
 pub mod Taking
 pub mod Words
+pub mod Walks
 pub mod Nearest
 pub mod Dues
 pub mod Differing

@@ -11,6 +11,7 @@ use lib.Count.{count_trailing_zeros}
 use lib.Dec.{eqb}
 use lib.ListN.{length, get_or}
 use borrow.Author.Tests.{eq-eqb, eqb-true}
+use Rattle.std.specs.Prelude.{Some, None}
 use Rattle.laws.proofs.Cases.{side, split, by}
 use Rattle.rules.specs.Pending.{Change, Pending, due_in, due, Least, nothing, first, lower, least_in, least}
 use Rattle.rules.specs.Session.{Each, Rising}
@@ -20,7 +21,7 @@ use Rattle.table.proofs.Changes.{each_more}
 use Rattle.table.proofs.Leasts.{none-earlier, something_due}
 use Rattle.cells.specs.Cells.{change_in, count_of, pending_of, pendings, Fit, Reached, Due, ComesNext}
 use Rattle.cells.specs.Inside.Moves.{Nearer, Seen}
-use Rattle.cells.specs.declared.Coming.TheVariants.{Nothing, At}
+use Rattle.cells.specs.declared.Coming.{Coming}
 use Rattle.cells.proofs.Waiting.{due-later, later_first, later_all}
 use Rattle.cells.proofs.Columns.{length-pendings, pending_at, pending-past}
 use Rattle.cells.proofs.Words.{bit-or, bit_same, bit_other, bit-above, one_below, walking_first, walking_next}
@@ -94,7 +95,10 @@ least_is t p d h = of (least p) refl
 
 -- THE LOOP
 
-module _ (cs : List ℕ) (k time word : ℕ) (fit : Fit cs) (in64 : k < 64) (s : Seen cs k time word) where
+abbrev pub coming : ℕ → ℕ → Coming
+coming time due = record { time = time; due = due }
+
+module _ (cs : List ℕ) (k time word : ℕ) (fit : Fit cs) (in64 : k < 64) (s : Seen cs k (coming time word)) where
   below : (j : ℕ) → j < k + 1 → (j ≡ k → ⊥) → j < k
   below j l ne = omega arith
 
@@ -102,7 +106,7 @@ module _ (cs : List ℕ) (k time word : ℕ) (fit : Fit cs) (in64 : k < 64) (s :
   wider w l = let e : 2 * 2 ^ k ≡ 2 ^ suc k = omega arith in rw (add-one k) (omega arith)
 
   -- a signal with no change at the time
-  idle : due_in time (pending_of cs k) ≡ false → Reached time (pending_of cs k) → (word ≡ 0 → pending_of cs k ≡ []) → Seen cs (k + 1) time word
+  idle : due_in time (pending_of cs k) ≡ false → Reached time (pending_of cs k) → (word ≡ 0 → pending_of cs k ≡ []) → Seen cs (k + 1) (coming time word)
   idle d r n =
       record {
         small = wider word s.small;
@@ -112,7 +116,7 @@ module _ (cs : List ℕ) (k time word : ℕ) (fit : Fit cs) (in64 : k < 64) (s :
         above = s.above;
       }
 
-  pub seen_none : count_of cs k ≡ 0 → Seen cs (k + 1) time word
+  pub seen_none : count_of cs k ≡ 0 → Seen cs (k + 1) (coming time word)
   unfolding due_in Each tabulate
   seen_none e = idle (rw e refl) (rw e tt) (λ z. rw e refl)
 
@@ -144,7 +148,7 @@ module _ (cs : List ℕ) (k time word : ℕ) (fit : Fit cs) (in64 : k < 64) (s :
     unfolding due_in
     due-here t e = rw (seen, eq-eqb here.time t e)
 
-    seen-later : time < get_or cs (128 + k * 16) 0 / 2 → get_or cs (128 + k * 16) 0 / 2 < 2 ^ 64 → Seen cs (k + 1) time word
+    seen-later : time < get_or cs (128 + k * 16) 0 / 2 → get_or cs (128 + k * 16) 0 / 2 < 2 ^ 64 → Seen cs (k + 1) (coming time word)
     seen-later l f =
         let h : time < here.time = rw at l in
         idle (rw seen (due-later time (here ∷ rest) (later_all time here rest rises h))) (each_here time (omega arith)) (λ z. absurd (omega (arith, s.above z)))
@@ -152,7 +156,7 @@ module _ (cs : List ℕ) (k time word : ℕ) (fit : Fit cs) (in64 : k < 64) (s :
     not-zero : (w : ℕ) → bit w k ≡ true → w ≡ 0 → ⊥
     not-zero w b z = true≢false (sym b ∙ ap (λ x. bit x k) z ∙ bit-zero k)
 
-    seen-also : get_or cs (128 + k * 16) 0 / 2 ≡ time → Seen cs (k + 1) time (bit_or word (1 * 2 ^ k))
+    seen-also : get_or cs (128 + k * 16) 0 / 2 ≡ time → Seen cs (k + 1) (coming time (bit_or word (1 * 2 ^ k)))
     seen-also e =
         let h : here.time ≡ time = at ∙ e in
         let one : bit (bit_or word (1 * 2 ^ k)) k ≡ true = bit-or word (1 * 2 ^ k) k ∙ ap (λ b. bit word k || b) (bit_same k) ∙ or-true (bit word k) in
@@ -169,7 +173,7 @@ module _ (cs : List ℕ) (k time word : ℕ) (fit : Fit cs) (in64 : k < 64) (s :
     abbrev new : ℕ
     new = get_or cs (128 + k * 16) 0 / 2
 
-    seen-earlier : new < time → Seen cs (k + 1) new (1 * 2 ^ k)
+    seen-earlier : new < time → Seen cs (k + 1) (coming new (1 * 2 ^ k))
     seen-earlier l =
         let far : (j : ℕ) → j < k → Each (λ c. new < c.time) (pending_of cs j) =
         λ j m. each_more (λ c. time ≤ c.time) (λ c. new < c.time) (λ c g. omega arith) (pending_of cs j) (s.reached j m) in
@@ -185,16 +189,19 @@ module _ (cs : List ℕ) (k time word : ℕ) (fit : Fit cs) (in64 : k < 64) (s :
           above = λ z. absurd (not-zero (1 * 2 ^ k) (bit_same k) z);
         }
 
-    pub seen_some : (one t w : ℕ) → one ≡ 1 * 2 ^ k → Nearer new one time word t w → Seen cs (k + 1) t w
-    seen_some one t w e n =
+    pub seen_some : (one : ℕ) (r : Coming) → one ≡ 1 * 2 ^ k → Nearer new one time word r → Seen cs (k + 1) r
+    seen_some one r e n =
         by new time
-        (λ q. let r = n.same q in rw (r.0, r.1, e) (seen-also q))
+        (λ q. let r = n.same q in is_seen r.0 (r.1 ∙ ap (bit_or word) e) (seen-also q))
         (λ ne. ⊎_elim
-        (λ l. let r = n.earlier l in rw (r.0, r.1, e) (seen-earlier l))
-        (λ l. let g : time < new = omega arith in let r = n.later g in rw (r.0, r.1) (seen-later g n.fits))
+        (λ l. let r = n.earlier l in is_seen r.0 (r.1 ∙ e) (seen-earlier l))
+        (λ l. let g : time < new = omega arith in let r = n.later g in is_seen r.0 r.1 (seen-later g n.fits))
         (side new time))
+      where
+        is_seen : {t w : ℕ} → r.time ≡ t → r.due ≡ w → Seen cs (k + 1) (coming t w) → Seen cs (k + 1) r
+        is_seen p q g = rw (← p, ← q) at g
 
-pub seen_start : (cs : List ℕ) → Seen cs 0 18446744073709551615 0
+pub seen_start : (cs : List ℕ) → Seen cs 0 (coming 18446744073709551615 0)
 seen_start cs =
     let e : 2 ^ 64 ≡ 18446744073709551616 = refl in
     record {
@@ -205,8 +212,8 @@ seen_start cs =
       above = λ z. omega arith;
     }
 
-module _ (cs : List ℕ) (n time word : ℕ) (few : n ≤ 64) (s : Seen cs n time word) where
-  pub comes_nothing : word ≡ 0 → ComesNext (pendings n cs) Nothing
+module _ (cs : List ℕ) (n time word : ℕ) (few : n ≤ 64) (s : Seen cs n (coming time word)) where
+  pub comes_nothing : word ≡ 0 → ComesNext (pendings n cs) None
   comes_nothing e =
       least-empty (pendings n cs)
       (λ k. ⊎_elim (λ l. pending_at n cs k l ∙ s.nothing e k l) (λ l. pending-past n cs k l) (side k n))
@@ -223,7 +230,7 @@ module _ (cs : List ℕ) (n time word : ℕ) (few : n ≤ 64) (s : Seen cs n tim
         reached = λ k. ⊎_elim (λ l. rw (pending_at n cs k l) (s.reached k l)) (λ l. rw (pending-past n cs k l) tt) (side k n);
       }
 
-  pub comes_at : (word ≡ 0 → ⊥) → ComesNext (pendings n cs) (At time word)
+  pub comes_at : (word ≡ 0 → ⊥) → ComesNext (pendings n cs) (Some (coming time word))
   comes_at ne =
       let some : 0 < word = omega arith in
       (least_is time (pendings n cs) (due_some word time (pendings n cs) is_due (omega (arith, length-pendings n cs)) some) is_due.reached, some, is_due)

@@ -1,14 +1,13 @@
 -- The cells of a session, which are the words of a session behind its count and time: the value of signal k at k, how many changes are
 -- pending for it at 64 + k, and its changes from 128 + 16 * k on, each twice its time, and one more where its value is true.
 -- Assumes nothing: these are definitions.
-use Rattle.std.specs.Prelude.{ℕ, ◌+◌, ◌*◌, ◌/◌, ◌%◌, ◌^◌, ◌<◌, ◌≤◌, ◌≡◌, refl, Bool, true, false, List, [], ◌∷◌, eqb, length, get_or}
+use Rattle.std.specs.Prelude.{ℕ, ◌+◌, ◌*◌, ◌/◌, ◌%◌, ◌^◌, ◌<◌, ◌≤◌, ◌≡◌, refl, Bool, true, false, List, [], ◌∷◌, Option, Some, None, eqb, length, get_or}
 use Rattle.rules.specs.Outcome.{Outcome, refuses, gives}
 use Rattle.rules.specs.Formulas.{Values, differ}
 use Rattle.rules.specs.Pending.{Change, change, Pending, post, taken, kept, due_in, nothing, first, least}
 use Rattle.rules.specs.Session.{Each, Rising}
 use Rattle.table.specs.Table.{bit, tabulate}
 use Rattle.cells.specs.declared.Coming.{Coming}
-use Rattle.cells.specs.declared.Coming.TheVariants.{Nothing, At}
 
 abbrev pub truth : ℕ → Bool
 truth word = eqb word 1
@@ -82,9 +81,9 @@ pub record Due (word t : ℕ) (p : Pending) : Type 0 where
   pub reached : (k : ℕ) → Reached t (get_or p k [])
 
 -- what comes next: the least pending time, with the word of the signals that have a change then
-abbrev pub ComesNext : Pending → Coming → Type 0
-ComesNext p Nothing = least p ≡ nothing
-ComesNext p (At t word) = (least p ≡ first t) × (0 < word) × Due word t p
+abbrev pub ComesNext : Pending → Option Coming → Type 0
+ComesNext p None = least p ≡ nothing
+ComesNext p (Some next) = (least p ≡ first next.time) × (0 < next.due) × Due next.due next.time p
 
 -- a change to true at 3 fs
 change_at_3 : change_in (7 ∷ []) 0 ≡ change 3 true

@@ -1,9 +1,12 @@
 // The cells of a session: posts, takes, and what comes next. Everything that a run changes stands in one array.
 #![tactic(auto)]
 
-ghost use Rattle.std.specs.Prelude.{◌≡◌, true, false, ℕ, ◌+◌, ◌*◌, ◌/◌, ◌^◌, ◌≤◌, ◌<◌, length, get_or};
+ghost use Rattle.std.specs.Prelude.{◌≡◌, ℕ, ◌+◌, ◌*◌, ◌/◌, ◌^◌, ◌≤◌, ◌<◌, length, get_or, is_ok, IfErr};
+ghost use Rattle.refusal.specs.declared.Reason.TheVariants.{Pending};
 ghost use Rattle.cells.specs.Cells.{truth, pending_of, pendings, Fit, Posted, Reached, Took, ComesNext};
-ghost use Rattle.cells.specs.Inside.Moves.{Cut, Shifted, Dropped, Nearer, Seen};
+ghost use Rattle.cells.specs.Inside.Moves.{Cut, Dropped, Nearer, Seen};
+
+use refusal::Reason;
 
 // Of the count changes from base on, sets those at t or later to zero and says how many are left.
 fn cut(cells: &mut [u64; 1152], base: usize, count: usize, t: u64) -> usize
@@ -12,55 +15,36 @@ fn cut(cells: &mut [u64; 1152], base: usize, count: usize, t: u64) -> usize
     requires by_index { (i j : ℕ) → i < j → j < count → get_or cells.old (base + i) 0 / 2 < get_or cells.old (base + j) 0 / 2 }
     ensures { Cut cells.old base count t result cells.new }
 {
-    let mut n = count;
-    while 0 < n {
-        let m = n - 1;
-        let at = base + m;
+    for n in (0..count).rev() {
+        let at = base + n;
         if cells[at] / 2 < t {
-            return n;
+            return n + 1;
         }
         cells[at] = 0;
-        n = m;
     }
-    n
+    0
 }
 
 // Posts a value (0 or 1) for a signal at a time; a 17th pending change is refused, and then nothing changes.
-pub fn post(cells: &mut [u64; 1152], signal: usize, time: u64, value: u64) -> bool
+pub fn post(cells: &mut [u64; 1152], signal: usize, time: u64, value: u64) -> Result<(), Reason>
     requires fit { Fit cells.old }
     requires signal_bound { signal < 64 }
     requires time_bound { time ≤ 2000000000000000000 }
     requires value_bound { value ≤ 1 }
-    ensures { Posted cells.old signal time (truth value) result cells.new }
+    ensures posted { Posted cells.old signal time (truth value) (is_ok result) cells.new }
+    ensures reason { IfErr result (λ e. e ≡ Pending) }
 {
     let top = 64 + signal;
     let base = 128 + signal * 16;
     let count = cells[top] as usize;
     let m = cut(cells, base, count, time);
     if 16 <= m {
-        return false;
+        return Err(Reason::Pending);
     }
     let at = base + m;
     cells[at] = time * 2 + value;
     cells[top] = (m + 1) as u64;
-    true
-}
-
-// Moves the n cells from base on down by one; the first goes.
-fn shift(cells: &mut [u64; 1152], base: usize, n: usize)
-    requires n_bound { base + n ≤ 1152 }
-    requires cells_len { length cells.old ≡ 1152 }
-    requires n_nonzero { 0 < n }
-    ensures { Shifted cells.old base n cells.new }
-{
-    let mut i = 1;
-    while i < n {
-        let from = base + i;
-        let to = from - 1;
-        let x = cells[from];
-        cells[to] = x;
-        i = i + 1;
-    }
+    Ok(())
 }
 
 // Drops the first of a signal's count changes. The cells behind them are zero, so that all sixteen are moved: a fixed number of moves
@@ -75,7 +59,7 @@ fn drop_first(cells: &mut [u64; 1152], base: usize, count: usize)
         cells[base] = 0;
         return;
     }
-    shift(cells, base, 16);
+    cells.copy_within(base + 1..base + 16, base);
     let last = base + 15;
     cells[last] = 0;
 }
@@ -113,77 +97,86 @@ pub fn one(k: u64) -> u64
     1 << k
 }
 
-// A time, and a word of the signals that have a change then.
-#[derive(Clone, Copy)]
-struct Earliest {
-    time: u64,
-    due: u64,
+// The bits of a word that are set: their places, in rising order.
+#[derive(Drop)]
+pub struct Bits(pub u64);
+
+impl Iterator for Bits {
+    ghost use Rattle.std.specs.Iterator.{at_most};
+    ghost use Rattle.cells.specs.Inside.Places.{NextBit};
+
+    type Item = usize;
+
+    ghost next_gives = { NextBit };
+
+    ghost remaining = { λ bits. at_most bits.0 };
+
+    #[inline(always)]
+    fn next(&mut self) -> Option<usize> {
+        if self.0 == 0 {
+            return None;
+        }
+        let place = u64::trailing_zeros(self.0);
+        self.0 = self.0 ^ one(place as u64);
+        Some(place as usize)
+    }
 }
 
-// Of a time with its word, and a signal's first time with its bit, the earlier; both, where they are the same. In this form it
+// What comes next: a time, and a word of the signals that have a change then.
+#[derive(Clone, Copy, Debug, PartialEq, Eq)]
+pub struct Coming {
+    pub time: u64,
+    pub due: u64,
+}
+
+// Of what comes next, and a signal's first time with its bit, the earlier; both, where they are the same. In this form it
 // compiles to no jump: which one is earlier cannot be foreseen.
-fn nearer(x: u64, bit: u64, time: u64, due: u64) -> Earliest
-    ensures { Nearer x bit time due result.time result.due }
+fn nearer(next: Coming, first: u64, bit: u64) -> Coming
+    ensures { Nearer first bit next.time next.due result }
 {
-    let mut t = time;
-    let mut d = due;
-    if x < t {
-        t = x;
-        d = 0;
+    let mut time = next.time;
+    let mut due = next.due;
+    if first < time {
+        time = first;
+        due = 0;
     }
-    if x == t {
-        d = d | bit;
+    if first == time {
+        due = due | bit;
     }
-    Earliest { time: t, due: d }
+    Coming { time, due }
 }
 
 // One signal more, with its bit: its first change may be earlier than those before.
-fn earlier(cells: &[u64; 1152], signal: usize, bit: u64, time: u64, due: u64) -> Earliest
+fn earlier(cells: &[u64; 1152], signal: usize, bit: u64, next: Coming) -> Coming
     requires fit { Fit cells.now }
     requires signal_bound { signal < 64 }
     requires bit_value { bit ≡ 1 * 2 ^ signal }
-    requires seen { Seen cells.now signal time due }
-    ensures { Seen cells.now (signal + 1) result.time result.due }
+    requires seen { Seen cells.now signal next }
+    ensures { Seen cells.now (signal + 1) result }
 {
     let top = 64 + signal;
     if cells[top] == 0 {
-        return Earliest {
-            time: time,
-            due: due,
-        };
+        return next;
     }
     let base = 128 + signal * 16;
-    nearer(cells[base] / 2, bit, time, due)
+    nearer(next, cells[base] / 2, bit)
 }
 
-// What comes next for so many signals.
-#[derive(Clone, Copy)]
-pub enum Coming {
-    Nothing,
-    At { time: u64, due: u64 },
-}
-
-pub fn comes_next(cells: &[u64; 1152], count: usize) -> Coming
+// What comes next for so many signals, if anything is pending.
+pub fn comes_next(cells: &[u64; 1152], count: usize) -> Option<Coming>
     requires fit { Fit cells.now }
     requires count_bound { count ≤ 64 }
     ensures { ComesNext (pendings count cells.now) result }
 {
-    let mut time: u64 = 18446744073709551615;
-    let mut due: u64 = 0;
+    let mut next = Coming {
+        time: u64::MAX,
+        due: 0,
+    };
+    // The bit is carried along: a shift by a number that is not constant takes longer.
     let mut bit: u64 = 1;
-    let mut k = 0;
-    while k < count {
-        let e = earlier(cells, k, bit, time, due);
-        time = e.time;
-        due = e.due;
+    for signal in 0..count {
+        next = earlier(cells, signal, bit, next);
         bit = bit << 1;
-        k = k + 1;
     }
-    if due == 0 {
-        return Coming::Nothing;
-    }
-    Coming::At {
-        time: time,
-        due: due,
-    }
+    if next.due == 0 { None } else { Some(next) }
 }

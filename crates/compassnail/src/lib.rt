@@ -2,19 +2,18 @@
 #![tactic(auto)]
 
 ghost use Rattle.std.specs.Prelude.{◌≡◌, ◌+◌, ◌*◌, ◌≤◌, length};
+ghost use Rattle.refusal.specs.Numbers.{number_of};
 ghost use Rattle.compassnail.specs.Codes.{ReadsInC, HeadsInC, code_of, report_after, Small, StartsInC, AdvancesInC};
 
-use heading::Headed;
-use reader::Tabled;
+use refusal::{Reason, Refusal};
 use session::Answer;
 
 // A refusal of a text as one number.
-fn refused_at(number: u64, place: usize) -> u64
-    requires number_bound { number ≤ 11 }
-    requires place_bound { place ≤ 60000 }
-    ensures { result ≡ number + 256 * place }
+fn refused_at(refusal: Refusal) -> u64
+    requires { refusal.place ≤ 60000 }
+    ensures { result ≡ number_of refusal.reason + 256 * refusal.place }
 {
-    number + 256 * place as u64
+    refusal.reason.number() + 256 * refusal.place as u64
 }
 
 // The table of a text.
@@ -23,8 +22,8 @@ pub extern "C" fn compassnail_read(text: &[u8], table: &mut [u64]) -> u64
     ensures { ReadsInC text.now table.old result table.new }
 {
     match reader::read(text, table) {
-        Tabled::Written => 0,
-        Tabled::Refused { number, place } => refused_at(number, place),
+        Ok(()) => 0,
+        Err(unread) => refused_at(unread),
     }
 }
 
@@ -34,32 +33,27 @@ pub extern "C" fn compassnail_header(text: &[u8], out: &mut [u8]) -> u64
     ensures { HeadsInC text.now out.old result out.new }
 {
     match heading::header(text, out) {
-        Headed::Written(bytes) => 256 * bytes as u64,
-        Headed::Refused { number, place } => refused_at(number, place),
+        Ok(bytes) => 256 * bytes as u64,
+        Err(refusal) => refused_at(refusal),
     }
 }
 
 // The answer as one number, and time, cycles and steps in the report where the call moved.
-fn told(answer: Answer, report: &mut [u64]) -> u64
+fn told(answer: Result<Answer, Reason>, report: &mut [u64]) -> u64
     requires small { Small answer }
     requires in_bounds { 3 ≤ length report.old }
     ensures value { result ≡ code_of answer }
     ensures report_after { report.new ≡ report_after answer report.old }
 {
     match answer {
-        Answer::Refused(number) => number,
-        Answer::Quiet => 254,
-        Answer::StopReached => 255,
-        Answer::Moves {
-            bytes,
-            time,
-            cycles,
-            steps,
-        } => {
-            report[0] = time;
-            report[1] = cycles;
-            report[2] = steps;
-            256 * bytes as u64
+        Err(reason) => reason.number(),
+        Ok(Answer::Quiet) => 254,
+        Ok(Answer::StopReached) => 255,
+        Ok(Answer::Moved(moved)) => {
+            report[0] = moved.time;
+            report[1] = moved.cycles;
+            report[2] = moved.steps;
+            256 * moved.bytes as u64
         }
     }
 }
@@ -75,9 +69,9 @@ pub extern "C" fn compassnail_start(
     ensures { StartsInC table.now session.old out.old report.old result session.new out.new report.new }
 {
     if report.len() < 3 {
-        return 11;
+        return Reason::Buffer.number();
     }
-    let answer = run::start(table, session, out);
+    let answer = run::start(table, session, out).map(Answer::Moved);
     told(answer, report)
 }
 
@@ -93,7 +87,7 @@ pub extern "C" fn compassnail_advance(
     ensures { AdvancesInC table.now session.old stop out.old report.old result session.new out.new report.new }
 {
     if report.len() < 3 {
-        return 11;
+        return Reason::Buffer.number();
     }
     let answer = run::advance(table, session, stop, out);
     told(answer, report)

@@ -6,6 +6,7 @@ use mathlib.Core.List.{List, [], ◌∷◌}
 use lib.ListN.{length, drop}
 use lib.Seq.{sets-eq}
 use native.Mathlib.Omega.{arith}
+use Rattle.std.specs.Prelude.{Result}
 use Rattle.syntax.specs.Tree.{Design}
 use Rattle.words.specs.Unit.{longest}
 use Rattle.rules.specs.Session.{Session, FitSession}
@@ -23,6 +24,7 @@ use Rattle.layout.proofs.Sessions.{length-session_words, holds-session_words}
 use Rattle.names.specs.CircuitOf.{circuit_of}
 use Rattle.names.specs.Text.{accepts, Gets}
 use Rattle.demands.proofs.Demands.{accepted_same_calls}
+use Rattle.refusal.specs.declared.Reason.{Reason}
 use Rattle.session.specs.declared.Answer.{Answer}
 use Rattle.run.specs.Lent.{LongEnough, words_after, StartDue, AdvanceDue, Gives, Starts, Advances}
 use Rattle.run.specs.Lent as lent
@@ -71,7 +73,7 @@ module _ (text : List ℕ) (d : Design) (accepted : Gets text (accepts d)) (tabl
   agrees (moved m) f = f.agrees ∙ sym f.counted
 
   -- the start, over the statements as written
-  pub code-start : (session out session_left out_left : List ℕ) (answer : Answer) → LongEnough table session out → Starts table session out answer session_left out_left
+  pub code-start : (session out session_left out_left : List ℕ) (answer : Result Answer Reason) → LongEnough table session out → Starts table session out answer session_left out_left
       → Gives (start (written (circuit_of d)) (circuit_of d).initial) session out answer session_left out_left
   code-start session out session_left out_left answer long s =
       let e = start-once table session out s.says (start (runners (translate (circuit_of d))) (translate (circuit_of d)).initial) s.due (lent.StartDue.runs long fit_words) in
@@ -82,7 +84,7 @@ module _ (text : List ℕ) (d : Design) (accepted : Gets text (accepts d)) (tabl
     abbrev fit_there : FitSession (runners (translate (circuit_of d))) (length (translate (circuit_of d)).initial) s
     fit_there = (same.sessions s).1 fit
 
-    pub code-advance : (session out session_left out_left : List ℕ) (answer : Answer) → LongEnough table session out → HoldsSession session s
+    pub code-advance : (session out session_left out_left : List ℕ) (answer : Result Answer Reason) → LongEnough table session out → HoldsSession session s
         → Advances table session out stop answer session_left out_left
         → Gives (advance (written (circuit_of d)) stop s) session out answer session_left out_left
     code-advance session out session_left out_left answer long holds a =
@@ -109,7 +111,7 @@ module _ (text : List ℕ) (d : Design) (accepted : Gets text (accepts d)) (tabl
       (gives, code-calls more (leaves o s) c.session_left (leaves-fit _ _ o s fit f) holds called.3)
 
   -- and so after the start
-  pub code-run : (session out session_left out_left : List ℕ) (answer : Answer) → LongEnough table session out → Starts table session out answer session_left out_left
+  pub code-run : (session out session_left out_left : List ℕ) (answer : Result Answer Reason) → LongEnough table session out → Starts table session out answer session_left out_left
       → (more : List Call) → Called table session_left more
       → GivenAfter (written (circuit_of d)) (start (written (circuit_of d)) (circuit_of d).initial) session_left more
   code-run session out session_left out_left answer long s more called =

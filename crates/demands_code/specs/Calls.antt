@@ -1,11 +1,12 @@
 -- Calls of advance, one after the other, on a lent table: what their promises tell of them, and what the rules give on statements.
 -- Assumes nothing: these are definitions.
-use Rattle.std.specs.Prelude.{ℕ, ◌≤◌, List, [], ◌∷◌}
+use Rattle.std.specs.Prelude.{ℕ, ◌≤◌, List, [], ◌∷◌, Result}
 use Rattle.words.specs.Unit.{longest}
 use Rattle.rules.specs.Runner.{Runner}
 use Rattle.rules.specs.Session.{Session}
 use Rattle.rules.specs.Calls.{refused, quiet, stop_reached, moved, advance, leaves}
 use Rattle.rules.specs.Calls as calls
+use Rattle.refusal.specs.declared.Reason.{Reason}
 use Rattle.session.specs.declared.Answer.{Answer}
 use Rattle.run.specs.Lent.{LongEnough, Gives, Advances}
 
@@ -13,7 +14,7 @@ use Rattle.run.specs.Lent.{LongEnough, Gives, Advances}
 pub record Call : Type 0 where
   pub stop : ℕ
   pub out : List ℕ
-  pub answer : Answer
+  pub answer : Result Answer Reason
   pub session_left : List ℕ
   pub out_left : List ℕ
 

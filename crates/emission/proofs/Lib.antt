@@ -1,5 +1,4 @@
--- Laws of the words of a table that loops write, and of the bits of processes.
-pub mod Bits
+-- Laws of the words of a table that are filled.
 pub mod Filling
 -- What the parts of a design draft is the translation of its circuit.
 pub mod Laid

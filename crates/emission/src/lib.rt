@@ -19,20 +19,23 @@ pub fn emit(table: &mut [u64], n: usize, operation: u64, delay: u64) -> usize
     if n < 4096 {
         write(table, 195 + n, operation);
         write(table, 4291 + n, delay);
-        return n + 1;
+        n + 1
+    } else {
+        n
     }
-    n
 }
 
 // The operation of a test (10) or a skip (11).
+// Kept: what may not change, `aim`, which answers for every kind up to 11; an enum of these two would ask more of its callers.
 fn jump(kind: u64, target: usize) -> u64
     requires { kind ≤ 11 }
     ensures { result ≡ jump_word kind target }
 {
     if 4096 < target {
-        return 0;
+        0
+    } else {
+        kind + (16 * target) as u64
     }
-    kind + (16 * target) as u64
 }
 
 // A jump is written when its target is known.
@@ -46,6 +49,7 @@ pub fn aim(table: &mut [u64], n: usize, kind: u64, target: usize)
 }
 
 // The operation of a binary word.
+// Kept: what may not change, this function, which answers for every number; an enum of the six words would ask more of its callers.
 pub fn binary(kind: usize) -> u64
     ensures { result ≡ binary_kind kind }
 {
@@ -60,19 +64,15 @@ pub fn binary(kind: usize) -> u64
 }
 
 // The signals from one number up to another start as `true` where that word (22) is given.
+// Kept: what may not change, this function, which answers for every number; a flag for the one word would leave the test to its caller.
 pub fn start_values(table: &mut [u64], from: usize, to: usize, kind: usize)
     ensures { table.new ≡ begun table.old from to kind }
 {
-    if kind != 22 {
+    if kind != 22 || 64 < to {
         return;
     }
-    if 64 < to {
-        return;
-    }
-    let mut k = from;
-    while k < to {
+    for k in from..to {
         write(table, 3 + k, 1);
-        k += 1;
     }
 }
 
@@ -80,13 +80,10 @@ pub fn start_values(table: &mut [u64], from: usize, to: usize, kind: usize)
 fn bit(process: u64) -> u64
     ensures { result ≡ bit_of process }
 {
-    if process < 1 {
-        return 0;
+    match process {
+        1..=64 => 1 << (process - 1),
+        _ => 0,
     }
-    if 64 < process {
-        return 0;
-    }
-    1 << (process - 1)
 }
 
 // The word of a signal with the bit of a process, which is above all bits of it so far.
@@ -94,22 +91,18 @@ fn with_bit(word: u64, process: u64) -> u64
     ensures { result ≡ with_bit word process }
 {
     let b = bit(process);
-    if word < b {
-        return word + b;
-    }
-    word
+    if word < b { word + b } else { word }
 }
 
 // A signal wakes a process, counted from 1.
 pub fn wake(table: &mut [u64], signal: usize, process: u64)
     ensures { table.new ≡ waking table.old signal process }
 {
-    if 64 <= signal {
-        return;
-    }
-    let at = 67 + signal;
-    if at < table.len() {
-        table[at] = with_bit(table[at], process);
+    if signal < 64 {
+        let at = 67 + signal;
+        if at < table.len() {
+            table[at] = with_bit(table[at], process);
+        }
     }
 }
 
@@ -117,13 +110,9 @@ pub fn wake(table: &mut [u64], signal: usize, process: u64)
 pub fn end_process(table: &mut [u64], process: u64, next: usize)
     ensures { table.new ≡ ended table.old process next }
 {
-    if process < 1 {
-        return;
+    if matches!(process, 1..=64) {
+        write(table, 130 + process as usize, next as u64);
     }
-    if 64 < process {
-        return;
-    }
-    write(table, 130 + process as usize, next as u64);
 }
 
 // A table of zeros.
@@ -131,9 +120,5 @@ pub fn clear(table: &mut [u64])
     requires { 8387 ≤ length table.old }
     ensures { table.new ≡ cleared table.old }
 {
-    let mut k = 0;
-    while k < 8387 {
-        table[k] = 0;
-        k += 1;
-    }
+    table[..8387].fill(0);
 }

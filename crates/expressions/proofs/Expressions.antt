@@ -3,11 +3,12 @@
 use Prim.Native.Nat.{ℕ, zero, suc, ◌+◌, ◌-◌, ◌*◌, ◌<◌, ◌≤◌}
 use native.Mathlib.Omega.{arith}
 use mathlib.Core.Path.{◌≡◌, refl, sym, ap, ◌∙◌}
-use mathlib.Core.Bool.{false}
+use mathlib.Core.Bool.{Bool, true, false}
+use lib.Dec.{ltb}
 use mathlib.Core.Option.{some}
 use mathlib.Core.List.{List, [], ◌∷◌, map}
 use lib.ListN.{length}
-use borrow.Author.Tests.{ne_eqb}
+use borrow.Author.Tests.{ne_eqb, ltb-true, ltb-false}
 use Rattle.laws.specs.Pick.{within}
 use Rattle.laws.proofs.Ranges.{Ranged, ranged, below, inside, above, within-below, within-above}
 use Rattle.words.specs.Token.{Token, Chain, NOT, OPEN, CLOSE, chain}
@@ -27,13 +28,14 @@ use Rattle.look.specs.Inside.Looks.{part, name_at, look_of, token_of_kind, token
 use Rattle.look.proofs.Looks.{seen, seen-there}
 use Rattle.look.proofs.Numbers.{chain_kind, chain-kind, misfit, once-token, chain-token, literal-token, name-seen, fixed-seen}
 use Rattle.ledger.specs.Inside.Standing.{Judges, Numbers}
-use Rattle.reading.specs.declared.Spot.{Spot}
-use Rattle.reading.specs.Inside.Spots.{tokens_from, machine, verdict, drafted, past, unfit, deep, word_of, addressed}
+use Rattle.reading.specs.Inside.Spots.{Reached, reached, tokens_from, machine, verdict, drafted, past, unfit, deep, word_of, addressed}
 use Rattle.reading.specs.Inside.Reading.{What, whole, an_expression, a_tail, a_more, Reads}
 use Rattle.reading.proofs.Moves.{some_moves, deep-moves, same_moves}
 use Rattle.reading.proofs.Judging.{none-judged, then_judged, token-judged, passes-judged, redrafted, put-judged, put-drafted}
 use Rattle.reading.proofs.Words.{worded}
-use Rattle.reading.proofs.Generic.{reads-stuck, to_address}
+use Rattle.reading.specs.declared.Unfit.{Unfit}
+use Rattle.std.specs.Prelude.{Err}
+use Rattle.reading.proofs.Generic.{numbered, reads-stays, reads-stuck, to_address}
 
 abbrev pub primary : What
 primary = whole a_primary primary_roles primary_draft
@@ -75,7 +77,7 @@ chain-operation k lo hi = go (k - 18) (omega arith)
 abbrev bracket_step : Step Value a_primary
 bracket_step = record { push = expression_at in_brackets ∷ []; build = λ ws. bracketed ws.0.0 }
 
-module _ {s : List ℕ} {room : ℕ} {p : Spot} {l v : List ℕ} {t : Look} (h : p.at ≤ length s) (f : p.number ≡ 0) (e : t ≡ look_of s p.at) where
+module _ {s : List ℕ} {room : ℕ} {p : Reached} {l v : List ℕ} {t : Look} (h : p.at ≤ length s) (f : p.number ≡ 0) (e : t ≡ look_of s p.at) where
   -- PRIMARY
 
   pub primary-name : {l' v' : List ℕ} {n k : ℕ} → t.kind ≡ 108 → Judges 0 0 s (reads (name_at s t.start t.end)) t.start l l'
@@ -121,7 +123,7 @@ module _ {s : List ℕ} {room : ℕ} {p : Spot} {l v : List ℕ} {t : Look} (h :
         judges = λ z. absurd (omega (arith, z));
       }
 
-  pub primary_bracket : {q r : Spot} {l' v' : List ℕ} → t.kind ≡ 110 → (room ≡ 0 → ⊥) → Reads an_expression s (room - 1) (past t p.next) q l l' v v' → r ≡ word_of s q 111
+  pub primary_bracket : {q r : Reached} {l' v' : List ℕ} → t.kind ≡ 110 → (room ≡ 0 → ⊥) → Reads an_expression s (room - 1) (past t p.next) q l l' v v' → r ≡ word_of s q 111
       → Reads primary s room p r l l' v v'
   primary_bracket {q} k z d e2 =
       let x = seen-there h e (λ z. omega arith) in
@@ -139,7 +141,7 @@ module _ {s : List ℕ} {room : ℕ} {p : Spot} {l v : List ℕ} {t : Look} (h :
 
   -- FACTOR
 
-  pub factor-plain : {q : Spot} {l' v' : List ℕ} → (t.kind ≡ 15 → ⊥) → Reads primary s room p q l l' v v' → Reads factor s room p q l l' v v'
+  pub factor-plain : {q : Reached} {l' v' : List ℕ} → (t.kind ≡ 15 → ⊥) → Reads primary s room p q l l' v v' → Reads factor s room p q l l' v v'
   factor-plain {q} k d =
       record {
         tree = plain d.tree;
@@ -152,7 +154,7 @@ module _ {s : List ℕ} {room : ℕ} {p : Spot} {l v : List ℕ} {t : Look} (h :
         judges = d.judges;
       }
 
-  pub factor-not : {m : ℕ} {q : Spot} {l1 l2 v1 v2 : List ℕ} → t.kind ≡ 15 → Judges 0 0 s (counts 1) t.start l l1 → Reads primary s room (past t p.next) q l1 l2 v v1
+  pub factor-not : {m : ℕ} {q : Reached} {l1 l2 v1 v2 : List ℕ} → t.kind ≡ 15 → Judges 0 0 s (counts 1) t.start l l1 → Reads primary s room (past t p.next) q l1 l2 v v1
       → m ≡ following q.next → v2 ≡ placed v1 q.next 2 0 → Reads factor s room p (addressed q m) l l2 v v2
   factor-not {m} {q} k g d a w =
       let x = seen-there h e (λ z. omega arith) in
@@ -173,12 +175,12 @@ first_run : (ts : List Token) (c : Place) (ss : List Symbol) (k : Values Value (
 first_run [] c ss k = refl
 first_run (t ∷ ts) c ss k = missing.expression_first t ts ss c k
 
-first_moves : (s : List ℕ) (p : Spot) (c : Place) (ss : List Symbol) (k : Values Value (expression_at c ∷ ss) → Design)
+first_moves : (s : List ℕ) (p : Reached) (c : Place) (ss : List Symbol) (k : Values Value (expression_at c ∷ ss) → Design)
     → verdict s p (expression_at c ∷ ss) k ≡ verdict s p (a_factor ∷ tail_at c ∷ ss) (λ vs. k ((expression vs.0 vs.1.0.0, vs.1.0.1), vs.1.1))
 unfolding verdict machine
 first_moves s p c ss k = rw (first_run (map (λ p. p.token) (tokens_from s p.at)) c ss k)
 
-pub expression_then : {s : List ℕ} {room : ℕ} {p q r : Spot} {l l1 l2 v v1 v2 : List ℕ} → Reads factor s room p q l l1 v v1 → Reads a_tail s room q r l1 l2 v1 v2 → Reads an_expression s room p r l l2 v v2
+pub expression_then : {s : List ℕ} {room : ℕ} {p q r : Reached} {l l1 l2 v v1 v2 : List ℕ} → Reads factor s room p q l l1 v v1 → Reads a_tail s room q r l1 l2 v1 v2 → Reads an_expression s room p r l l2 v v2
 expression_then {s} {room} {p} a b =
     record {
       tree = expression a.tree b.tree;
@@ -191,7 +193,7 @@ expression_then {s} {room} {p} a b =
 
 -- TAIL AND CHAIN
 
-module _ {s : List ℕ} {room : ℕ} {p : Spot} {l v : List ℕ} {t : Look} (h : p.at ≤ length s) (f : p.number ≡ 0) (e : t ≡ look_of s p.at) where
+module _ {s : List ℕ} {room : ℕ} {p : Reached} {l v : List ℕ} {t : Look} (h : p.at ≤ length s) (f : p.number ≡ 0) (e : t ≡ look_of s p.at) where
   tail_none : (within 16 17 t.kind ≡ false) → (within 18 21 t.kind ≡ false) → Reads a_tail s room p p l l v v
   tail_none a b =
       record {
@@ -210,7 +212,7 @@ module _ {s : List ℕ} {room : ℕ} {p : Spot} {l v : List ℕ} {t : Look} (h :
   pub tail-high : 22 ≤ t.kind → Reads a_tail s room p p l l v v
   tail-high a = tail_none (within-above 16 17 t.kind (omega arith)) (within-above 18 21 t.kind a)
 
-  pub tail-once : {m o : ℕ} {q : Spot} {l1 l2 v1 v2 : List ℕ} → 16 ≤ t.kind → t.kind < 18 → Judges 0 0 s (counts 1) t.start l l1 → Reads factor s room (past t p.next) q l1 l2 v v1
+  pub tail-once : {m o : ℕ} {q : Reached} {l1 l2 v1 v2 : List ℕ} → 16 ≤ t.kind → t.kind < 18 → Judges 0 0 s (counts 1) t.start l l1 → Reads factor s room (past t p.next) q l1 l2 v v1
       → m ≡ following q.next → o ≡ binary_kind t.kind → v2 ≡ placed v1 q.next o 0 → Reads a_tail s room p (addressed q m) l l2 v v2
   tail-once {m} {q = q} {v1 = v1} lo hi g d a i w =
       let x = seen-there h e (λ z. omega arith) in
@@ -226,7 +228,7 @@ module _ {s : List ℕ} {room : ℕ} {p : Spot} {l v : List ℕ} {t : Look} (h :
             (w ∙ ap (λ j. placed v1 q.next j 0) (i ∙ once-operation t.kind lo hi));
       }
 
-  pub tail-chain : {m o : ℕ} {q r : Spot} {l1 l2 l3 v1 v2 v3 : List ℕ} → 18 ≤ t.kind → t.kind < 22 → Judges 0 0 s (counts 1) t.start l l1 → Reads factor s room (past t p.next) q l1 l2 v v1
+  pub tail-chain : {m o : ℕ} {q r : Reached} {l1 l2 l3 v1 v2 v3 : List ℕ} → 18 ≤ t.kind → t.kind < 22 → Judges 0 0 s (counts 1) t.start l l1 → Reads factor s room (past t p.next) q l1 l2 v v1
       → m ≡ following q.next → o ≡ binary_kind t.kind → v2 ≡ placed v1 q.next o 0
       → Reads (a_more (chain_of t.kind)) s room (addressed q m) r l2 l3 v2 v3 → Reads a_tail s room p r l l3 v v3
   tail-chain {m} {q = q} {v1 = v1} lo hi g d a i w b =
@@ -243,6 +245,16 @@ module _ {s : List ℕ} {room : ℕ} {p : Spot} {l v : List ℕ} {t : Look} (h :
             (w ∙ ap (λ j. placed v1 q.next j 0) (i ∙ chain-operation t.kind lo hi))) (b.judges z);
       }
 
+  -- a refusal in the factor behind a word, whichever it is
+  pub tail-refused : (r : Unfit) {l1 l2 v1 : List ℕ} → 16 ≤ t.kind → t.kind < 22 → Judges 0 0 s (counts 1) t.start l l1
+      → Reads factor s room (past t p.next) (reached (Err r)) l1 l2 v v1
+      → Reads a_tail s room p (addressed (reached (Err r)) (following 0)) l l2 v (placed v1 0 (binary_kind t.kind) 0)
+  tail-refused r {l2 = l2} {v1 = v1} lo hi g d = go (ltb t.kind 18) refl
+    where
+      go : (b : Bool) → ltb t.kind 18 ≡ b → Reads a_tail s room p (addressed (reached (Err r)) (following 0)) l l2 v (placed v1 0 (binary_kind t.kind) 0)
+      go true b = tail-once lo (ltb-true t.kind 18 b) g d refl refl refl
+      go false b = tail-chain (ltb-false t.kind 18 b) hi g d refl refl refl (reads-stays (a_more (chain_of t.kind)) d.inside (numbered r))
+
   module _ {d : ℕ} (lo : 18 ≤ d) (hi : d < 22) where
     pub chain-none : (t.kind ≡ d → ⊥) → Reads (a_more (chain_of d)) s room p p l l v v
     chain-none a =
@@ -256,7 +268,7 @@ module _ {s : List ℕ} {room : ℕ} {p : Spot} {l v : List ℕ} {t : Look} (h :
           judges = λ z. none-judged;
         }
 
-    pub chain_more : {m o : ℕ} {q r : Spot} {l1 l2 l3 v1 v2 v3 : List ℕ} → t.kind ≡ d → Judges 0 0 s (counts 1) t.start l l1 → Reads factor s room (past t p.next) q l1 l2 v v1
+    pub chain_more : {m o : ℕ} {q r : Reached} {l1 l2 l3 v1 v2 v3 : List ℕ} → t.kind ≡ d → Judges 0 0 s (counts 1) t.start l l1 → Reads factor s room (past t p.next) q l1 l2 v v1
         → m ≡ following q.next → o ≡ binary_kind d → v2 ≡ placed v1 q.next o 0
         → Reads (a_more (chain_of d)) s room (addressed q m) r l2 l3 v2 v3 → Reads (a_more (chain_of d)) s room p r l l3 v v3
     chain_more {m} {q = q} {v1 = v1} k g b1 a i w b =

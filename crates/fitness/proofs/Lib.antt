@@ -1,4 +1,5 @@
 -- Why the tests of fitness decide what they say.
+pub mod Spans
 pub mod Ranges
 pub mod Reading
 pub mod Kind

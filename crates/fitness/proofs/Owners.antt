@@ -6,72 +6,99 @@ use mathlib.Core.Bool.{Bool, true, false, ◌||◌}
 use mathlib.Core.Logic.{⊎_elim}
 use mathlib.Core.List.{List, [], ◌∷◌}
 use lib.Dec.{eqb}
-use lib.ListN.{get_or, length, drop, replicate, length-replicate, length-drop}
-use lib.Seq.{get_or-take, get_or-drop, length-take-le}
+use lib.ListN.{get_or, length, drop, set, replicate, length-set, length-replicate, length-drop}
+use lib.Seq.{get_or-take, get_or-drop, get_or-set_same, get_or-set_other, length-take-le}
+use Rattle.std.specs.Prelude.{Option, Some, None, MatchOption}
+use Rattle.std.specs.Option.{is_some}
 use borrow.Author.Tests.{eqb-true, eq-eqb}
-use Rattle.laws.proofs.Cases.{same_or, some}
-use Rattle.laws.proofs.Lists.{zero_at}
-use Rattle.laws.proofs.Deciding.{differ}
+use Rattle.laws.proofs.Cases.{same_or}
+use Rattle.laws.specs.Decides.{Decides}
+use Rattle.laws.proofs.Deciding.{differ, decides_yes, decides_no}
 use Rattle.table.specs.Instructions.{Instruction, name, literal, negation, binary, assignment, test, skip}
 use Rattle.table.specs.Table.{Table, begins, part, posts}
 use Rattle.table.specs.Fit.{at}
-use Rattle.fitness.specs.Inside.Heights.{PutAs}
 use Rattle.fitness.specs.Inside.Parts.{Rows}
 use Rattle.fitness.specs.Inside.Drivers.{Posts, Drives, Alone, Owned}
 use Rattle.fitness.proofs.Reading.{rows_climb, row_same}
-use Rattle.fitness.proofs.Kind.{Kind}
+
+one_some : (p q : ℕ) (o : Option ℕ) → o ≡ Some p → o ≡ Some q → p ≡ q
+one_some p q o a b = cc
 
 -- THE PASS
 
-module _ (t : Table) (n m p x : ℕ) (own gs : List ℕ) (kind about : ℕ) (r : Bool) (o : Owned t n x own) (rows : Rows t n m) (pn : p < n)
-    (lo : begins t p ≤ x) (hi : x < begins t (suc p)) (kd : Kind kind about (at t.code x))
-    (u : PutAs (eqb kind 9) own about (p + 1) r gs) where
-  mine : (k : ℕ) → eqb kind 9 ≡ true → k ≡ about → Drives t p k
-  mine k g e =
-      record { place = x; behind = lo; before = hi; posts = subst (λ z. Posts (at t.code x) z) (sym e) (kd.posting (eqb-true kind 9 g)) }
-
-  pub own_more : r ≡ true → Owned t n (x + 1) gs
-  own_more z =
+module _ (t : Table) (n m p x : ℕ) (own : List (Option ℕ)) (o : Owned t n x own) where
+  -- the instruction at x posts nothing
+  pub own-skip : ((k : ℕ) → Posts (at t.code x) k → ⊥) → Owned t n (x + 1) own
+  own-skip none =
       record {
-        long = u.long ∙ o.long;
-        known = λ k q e. ⊎_elim (λ a. o.known k q (sym a ∙ e))
-            (λ a. let y : q ≡ p = omega (arith, a.3) in rw y (pn, mine k a.0 a.1)) (u.grown k);
+        long = o.long;
+        known = o.known;
         done = λ q i k l a b c d. ⊎_elim
-            (λ e.
-            let v : p ≡ q = row_same t n m rows p q x pn l lo hi (subst (λ y. begins t q ≤ y) e a) (subst (λ y. y < begins t (suc q)) e b) in
-            let w = kd.posted k (subst (λ y. Posts (at t.code y) k) e d) in
-            ap (λ j. get_or gs j 0) w.1 ∙ u.there z (eq-eqb kind 9 w.0) ∙ omega arith)
-            (λ e.
-            let w = o.done q i k l a b (omega arith) d in
-            ⊎_elim (λ y. y ∙ w) (λ y. absurd (omega (arith, y.2))) (u.grown k))
+            (λ e. absurd (none k (subst (λ y. Posts (at t.code y) k) e d)))
+            (λ e. o.done q i k l a b (omega arith) d)
             (same_or i x);
       }
 
-  pub own_bad : r ≡ false → Alone t n → ⊥
-  own_bad z a =
-      let c = u.clash z in
-      let q = some (get_or own about 0) c.1 in
-      let d = o.known about q.0 q.1 in
-      let e : p ≡ q.0 = a p q.0 about pn d.0 (mine about c.0 refl) d.1 in
-      c.2 (omega (arith, q.1))
+  module _ (rows : Rows t n m) (pn : p < n) (lo : begins t p ≤ x) (hi : x < begins t (suc p)) (about : ℕ) (here : Posts (at t.code x) about) where
+    mine : Drives t p about
+    mine = record { place = x; behind = lo; before = hi; posts = here }
 
-pub own-none : (t : Table) (n : ℕ) → Owned t n 0 (replicate 64 0)
+    -- it posts a signal that no process drives, or this one does
+    pub own-more : about < 64 → ((k : ℕ) → Posts (at t.code x) k → k ≡ about) → ((q : ℕ) → get_or own about None ≡ Some q → q ≡ p)
+        → Owned t n (x + 1) (set own about (Some p))
+    own-more l only free =
+        let now : get_or (set own about (Some p)) about None ≡ Some p = get_or-set_same own about (Some p) None (omega (arith, o.long)) in
+        record {
+          long = length-set own about (Some p) ∙ o.long;
+          known = λ k q e. ⊎_elim
+              (λ a. let z : p ≡ q = one_some p q _ now (ap (λ j. get_or (set own about (Some p)) j None) (sym a) ∙ e) in rw (a, ← z) (pn, mine))
+              (λ a. o.known k q (sym (get_or-set_other own about k (Some p) None a) ∙ e)) (same_or k about);
+          done = λ q i k h a b c d. ⊎_elim
+              (λ e.
+              let v : p ≡ q = row_same t n m rows p q x pn h lo hi (subst (λ y. begins t q ≤ y) e a) (subst (λ y. y < begins t (suc q)) e b) in
+              let w : k ≡ about = only k (subst (λ y. Posts (at t.code y) k) e d) in
+              rw (w, ← v) now)
+              (λ e.
+              let w = o.done q i k h a b (omega arith) d in
+              ⊎_elim
+              (λ a. let y : q ≡ p = free q (ap (λ j. get_or own j None) (sym a) ∙ w) in rw (a, y) now)
+              (λ a. get_or-set_other own about k (Some p) None a ∙ w) (same_or k about))
+              (same_or i x);
+        }
+
+    -- it posts a signal that another process drives
+    pub own-bad : (q : ℕ) → get_or own about None ≡ Some q → (q ≡ p → ⊥) → Alone t n → ⊥
+    own-bad q e differs a =
+        let d = o.known about q e in
+        differs (sym (a p q about pn d.0 mine d.1))
+
+none_at : (n k q : ℕ) → get_or (replicate n None) k None ≡ Some q → ⊥
+none_at zero k q e = cc
+none_at (suc n) zero q e = cc
+none_at (suc n) (suc k) q e = none_at n k q e
+
+pub own-none : (t : Table) (n : ℕ) → Owned t n 0 (replicate 64 None)
 own-none t n =
     record {
-      long = length-replicate {A = ℕ} 64 0;
-      known = λ k q e. absurd (omega (arith, zero_at 64 k));
+      long = length-replicate {A = Option ℕ} 64 None;
+      known = λ k q e. absurd (none_at 64 k q e);
       done = λ q i k l a b c d. absurd (omega arith);
     }
 
-module _ (t : Table) (n m : ℕ) (own : List ℕ) (rows : Rows t n m) (o : Owned t n m own) where
+module _ (t : Table) (n m : ℕ) (own : List (Option ℕ)) (rows : Rows t n m) (o : Owned t n m own) where
   -- what drives a signal is written down
-  pub own-known : (p k : ℕ) → p < n → Drives t p k → get_or own k 0 ≡ suc p
+  pub own-known : (p k : ℕ) → p < n → Drives t p k → get_or own k None ≡ Some p
   own-known p k l d =
       let h = rows_climb t n m rows (suc p) (n - suc p) n (omega arith) (omega arith) in
       o.done p d.place k l d.behind d.before (omega (arith, d.before, rows.cover)) d.posts
 
   pub own_alone : Alone t n
-  own_alone p q k a b x y = omega (arith, own-known p k a x, own-known q k b y)
+  own_alone p q k a b x y = one_some p q (get_or own k None) (own-known p k a x) (own-known q k b y)
+
+pub alone-known : (t : Table) (n m : ℕ) → Rows t n m → (found : Option (List (Option ℕ))) (r : Bool) → r ≡ is_some found
+    → MatchOption found (Alone t n → ⊥) (Owned t n m) → Decides r (Alone t n)
+alone-known t n m rows None r e h = rw e (decides_no _ h)
+alone-known t n m rows (Some own) r e h = rw e (decides_yes _ (own_alone t n m own rows h))
 
 -- POSTS OF A PROCESS
 

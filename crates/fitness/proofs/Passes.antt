@@ -3,14 +3,11 @@
 use Prim.Native.Nat.{ℕ, suc, ◌+◌, ◌-◌, ◌≤◌, ◌<◌}
 use native.Mathlib.Omega.{arith}
 use mathlib.Core.Path.{◌≡◌, refl, sym, ◌∙◌, ap, subst}
-use mathlib.Core.Bool.{Bool, true, false, not}
+use mathlib.Core.Bool.{Bool, true, false}
 use mathlib.Core.Logic.{inl, inr, ⊎_elim}
 use mathlib.Core.List.{List}
-use lib.Dec.{eqb, leb, ltb}
 use lib.ListN.{get_or, length, set, length-set, replicate, length-replicate}
 use lib.Seq.{get_or-set_same, get_or-set_other}
-use borrow.Author.Tests.{eqb-false, leb-true, le-leb, ne_eqb, not-true}
-use Rattle.laws.specs.Pick.{pick}
 use Rattle.laws.proofs.Cases.{same_or, some}
 use Rattle.laws.proofs.Lists.{zero_at}
 use Rattle.laws.proofs.Deciding.{differ}
@@ -18,44 +15,42 @@ use Rattle.table.specs.Instructions.{Instruction, takes, leaves}
 use Rattle.table.specs.Table.{Table, begins}
 use Rattle.table.specs.Fit.{at, Leads, Ahead, Way, begin, on, Sound}
 use Rattle.table.proofs.Heights.{leads-ahead}
-use Rattle.fitness.specs.Inside.Kinds.{takes_of, leaves_of, Follows, next, jump, Forward}
+use Rattle.kind.specs.declared.Kind.{Kind}
+use Rattle.kind.specs.declared.Kind.TheVariants.{Test, Skip}
+use Rattle.fitness.specs.Inside.Kinds.{takes_of, leaves_of, goes_on, jumps, Follows, next, jump, Forward}
 use Rattle.fitness.specs.Inside.Heights.{PutAs, after, Broken, short, high, clash, Stepped, Fresh, Passed}
 use Rattle.fitness.specs.Inside.Parts.{Sounds}
-use Rattle.fitness.proofs.Kind.{Kind}
+use Rattle.fitness.proofs.Kind.{Means}
 
-pub leaves-few : (kind : ℕ) → leaves_of kind ≤ 1
-unfolding leaves_of
-leaves-few kind = either (ltb kind 9)
-  where
-    either : (b : Bool) → pick b 1 0 ≤ 1
-    either true = omega arith
-    either false = omega arith
+pub leaves-few : (kind : Kind) → leaves_of kind ≤ 1
+leaves-few Skip = omega arith
+leaves-few kind = omega arith
+
+-- all but a test and a skip go on and do not jump
+pub goes_only : (kind : Kind) → (kind ≡ Test → ⊥) → (kind ≡ Skip → ⊥) → (goes_on kind ≡ true) × (jumps kind ≡ false)
+goes_only Test t s = absurd (t refl)
+goes_only Skip t s = absurd (s refl)
+goes_only kind t s = (refl, refl)
 
 -- PUT
 
-pub put-off : (hs : List ℕ) (j h : ℕ) (go : Bool) → go ≡ false → PutAs go hs j h true hs
-put-off hs j h go e =
-    record { long = refl; grown = λ k. inl refl; there = λ r g. differ (sym g ∙ e); clash = λ r. differ r }
-
-pub put-new : (hs : List ℕ) (j h : ℕ) (go : Bool) → go ≡ true → j < length hs → get_or hs j 0 ≡ 0 → PutAs go hs j h true (set hs j h)
-put-new hs j h go g l e =
+pub put-new : (hs : List ℕ) (j h : ℕ) → j < length hs → get_or hs j 0 ≡ 0 → PutAs hs j h true (set hs j h)
+put-new hs j h l e =
     record {
       long = length-set hs j h;
       grown = λ k. ⊎_elim
-          (λ q. inr (g, q, ap (λ i. get_or hs i 0) q ∙ e, ap (λ i. get_or (set hs j h) i 0) q ∙ get_or-set_same hs j h 0 l))
+          (λ q. inr (q, ap (λ i. get_or hs i 0) q ∙ e, ap (λ i. get_or (set hs j h) i 0) q ∙ get_or-set_same hs j h 0 l))
           (λ n. inl (get_or-set_other hs j k h 0 n)) (same_or k j);
-      there = λ r g. get_or-set_same hs j h 0 l;
+      there = λ r. get_or-set_same hs j h 0 l;
       clash = λ r. differ r;
     }
 
-pub put_old : (hs : List ℕ) (j h : ℕ) (go r : Bool) → go ≡ true → (get_or hs j 0 ≡ 0 → ⊥)
-    → (r ≡ true → get_or hs j 0 ≡ h) → (r ≡ false → get_or hs j 0 ≡ h → ⊥) → PutAs go hs j h r hs
-put_old hs j h go r g n y z =
-    record { long = refl; grown = λ k. inl refl; there = λ e f. y e; clash = λ e. (g, n, z e) }
+pub put_old : (hs : List ℕ) (j h : ℕ) (r : Bool) → (get_or hs j 0 ≡ 0 → ⊥) → (r ≡ true → get_or hs j 0 ≡ h) → (r ≡ false → get_or hs j 0 ≡ h → ⊥) → PutAs hs j h r hs
+put_old hs j h r n y z = record { long = refl; grown = λ k. inl refl; there = λ e. y e; clash = λ e. (n, z e) }
 
 -- STEP
 
-module _ (hs : List ℕ) (kind about x : ℕ) where
+module _ (hs : List ℕ) (kind : Kind) (about x : ℕ) where
   pub step-idle : get_or hs x 0 ≡ 0 → Stepped hs kind about x true hs
   step-idle e = record { long = refl; grown = λ k. inl refl; there = λ r z. absurd (omega arith); broken = λ r. differ r }
 
@@ -67,49 +62,62 @@ module _ (hs : List ℕ) (kind about x : ℕ) where
   step-high n e =
       record { long = refl; grown = λ k. inl refl; there = λ r z. differ (sym r); broken = λ r. (omega arith, high n e) }
 
-  module _ (ms : List ℕ) (h : ℕ) (enough : takes_of kind < get_or hs x 0) (same : h ≡ after hs kind x) (b : Bool)
-      (p : PutAs (not (eqb kind 11)) hs (x + 1) h b ms) where
-    goes : not (eqb kind 11) ≡ true → kind ≡ 11 → ⊥
-    goes e = eqb-false kind 11 (not-true (eqb kind 11) e)
-
-    pub step-clash : b ≡ false → Stepped hs kind about x false ms
-    step-clash e =
-        let q = p.clash e in
+  module _ (h : ℕ) (enough : takes_of kind < get_or hs x 0) (most : h ≤ 35) (same : h ≡ after hs kind x) where
+    put_at : (y : ℕ) (gs : List ℕ) (r : Bool) → Follows kind about x y → (r ≡ true → (k : ℕ) → Follows kind about x k → k ≡ y) → PutAs hs y h r gs → Stepped hs kind about x r gs
+    put_at y gs r f only p =
         record {
           long = p.long;
           grown = λ k. ⊎_elim (λ a. inl a)
-              (λ a. inr (record { enough = enough; follows = next (goes a.0) a.1; none = a.2; some = a.3 ∙ same })) (p.grown k);
-          there = λ r z. differ (sym r);
-          broken = λ r. (omega arith, clash (x + 1) enough (next (goes q.0) refl) q.1 (λ z. q.2 (z ∙ sym same)));
+              (λ a. inr (record { enough = enough; follows = subst (λ j. Follows kind about x j) (sym a.0) f; none = a.1; some = a.2 ∙ same })) (p.grown k);
+          there = λ e z. record { enough = enough; most = omega arith; all = λ k g. ap (λ j. get_or gs j 0) (only e k g) ∙ p.there e ∙ same };
+          broken = λ e. let c = p.clash e in (omega arith, clash y enough f c.0 (λ z. c.1 (z ∙ sym same)));
         }
 
-    pub step-done : (gs : List ℕ) (r : Bool) → b ≡ true → h ≤ 35 → PutAs (leb 10 kind) ms about h r gs → Stepped hs kind about x r gs
-    step-done gs r hb most q =
+    pub step-next : goes_on kind ≡ true → jumps kind ≡ false → (gs : List ℕ) (r : Bool) → PutAs hs (x + 1) h r gs → Stepped hs kind about x r gs
+    step-next g n gs r p = put_at (x + 1) gs r (next g refl) (λ e k f. only k f) p
+      where
+        only : (k : ℕ) → Follows kind about x k → k ≡ x + 1
+        only k (next z e) = e
+        only k (jump j e) = differ (sym j ∙ n)
+
+    pub step-jump : jumps kind ≡ true → goes_on kind ≡ false → (gs : List ℕ) (r : Bool) → PutAs hs about h r gs → Stepped hs kind about x r gs
+    step-jump j n gs r p = put_at about gs r (jump j refl) (λ e k f. only k f) p
+      where
+        only : (k : ℕ) → Follows kind about x k → k ≡ about
+        only k (next g e) = differ (sym g ∙ n)
+        only k (jump z e) = e
+
+    pub step-clash : goes_on kind ≡ true → (gs : List ℕ) (r : Bool) → r ≡ false → PutAs hs (x + 1) h r gs → Stepped hs kind about x r gs
+    step-clash g gs r n p = put_at (x + 1) gs r (next g refl) (λ e k f. differ (sym e ∙ n)) p
+
+    pub step-both : goes_on kind ≡ true → jumps kind ≡ true → (ms gs : List ℕ) (b r : Bool) → b ≡ true → PutAs hs (x + 1) h b ms → PutAs ms about h r gs
+        → Stepped hs kind about x r gs
+    step-both g j ms gs b r hb p q =
         record {
           long = q.long ∙ p.long;
           grown = λ k. ⊎_elim
               (λ a. ⊎_elim (λ b. inl (a ∙ b))
-              (λ b. inr (record { enough = enough; follows = next (goes b.0) b.1; none = b.2; some = a ∙ b.3 ∙ same })) (p.grown k))
+              (λ b. inr (record { enough = enough; follows = next g b.0; none = b.1; some = a ∙ b.2 ∙ same })) (p.grown k))
               (λ a. ⊎_elim
-              (λ b. inr (record { enough = enough; follows = jump (leb-true 10 kind a.0) a.1; none = sym b ∙ a.2; some = a.3 ∙ same }))
-              (λ b. inr (record { enough = enough; follows = next (goes b.0) b.1; none = b.2; some = a.3 ∙ same })) (p.grown k))
+              (λ b. inr (record { enough = enough; follows = jump j a.0; none = sym b ∙ a.1; some = a.2 ∙ same }))
+              (λ b. inr (record { enough = enough; follows = next g b.0; none = b.1; some = a.2 ∙ same })) (p.grown k))
               (q.grown k);
           there = λ e z. record { enough = enough; most = omega arith; all = λ k f. reached e k f };
           broken = λ e.
               let c = q.clash e in (
                 omega arith,
                 ⊎_elim
-                    (λ a. clash about enough (jump (leb-true 10 kind c.0) refl) (λ z. c.1 (a ∙ z)) (λ z. c.2 (a ∙ z ∙ sym same)))
-                    (λ a. absurd (c.2 a.3))
+                    (λ a. clash about enough (jump j refl) (λ z. c.0 (a ∙ z)) (λ z. c.1 (a ∙ z ∙ sym same)))
+                    (λ a. absurd (c.1 a.2))
                     (p.grown about),
               );
         }
       where
         reached : r ≡ true → (k : ℕ) → Follows kind about x k → get_or gs k 0 ≡ after hs kind x
         reached e k (next n z) =
-            let u : get_or ms k 0 ≡ h = ap (λ j. get_or ms j 0) z ∙ p.there hb (ap not (ne_eqb kind 11 n)) in
-            ⊎_elim (λ b. b ∙ u ∙ same) (λ b. b.3 ∙ same) (q.grown k)
-        reached e k (jump n z) = ap (λ j. get_or gs j 0) z ∙ q.there e (le-leb 10 kind n) ∙ same
+            let u : get_or ms k 0 ≡ h = ap (λ i. get_or ms i 0) z ∙ p.there hb in
+            ⊎_elim (λ b. b ∙ u ∙ same) (λ b. b.2 ∙ same) (q.grown k)
+        reached e k (jump n z) = ap (λ i. get_or gs i 0) z ∙ q.there e ∙ same
 
 -- THE PASS
 
@@ -147,17 +155,17 @@ pass-none code from upto hs l f =
       done = λ i h a b e. absurd (omega arith);
     }
 
-follows-up : (kind about end x y : ℕ) → Forward end x kind about → x < end → Follows kind about x y → (x < y) × (y ≤ end)
+follows-up : (kind : Kind) (about end x y : ℕ) → Forward end x kind about → x < end → Follows kind about x y → (x < y) × (y ≤ end)
 follows-up kind about end x y f l (next n e) = (omega arith, omega arith)
 follows-up kind about end x y f l (jump n e) = (omega (arith, f n), omega (arith, f n))
 
 -- every instruction leads somewhere
-leads_some : (kind about x : ℕ) → (y : ℕ) × Follows kind about x y
-leads_some kind about x =
-    ⊎_elim (λ e. (about, jump (omega arith) refl)) (λ n. (x + 1, next n refl)) (same_or kind 11)
+leads_some : (kind : Kind) (about x : ℕ) → (y : ℕ) × Follows kind about x y
+leads_some Skip about x = (about, jump refl refl)
+leads_some kind about x = (x + 1, next refl refl)
 
 module _ (code : List Instruction) (from upto x : ℕ) (hs : List ℕ) (d : Done code from upto x hs) (l : x < upto)
-    (kind about : ℕ) (kd : Kind kind about (at code x)) where
+    (kind : Kind) (about : ℕ) (kd : Means kind about (at code x)) where
   pub pass_more : (gs : List ℕ) (r : Bool) → Forward upto x kind about → Stepped hs kind about x r gs → r ≡ true → Done code from upto (x + 1) gs
   pass_more gs r a s hr =
       let up : (y : ℕ) → Follows kind about x y → (x < y) × (y ≤ upto) = λ y f. follows-up kind about upto x y a l f in

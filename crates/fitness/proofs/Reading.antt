@@ -2,13 +2,21 @@
 use Prim.Native.Nat.{ℕ, zero, suc, ◌+◌, ◌-◌, ◌/◌, ◌%◌, ◌≤◌, ◌<◌}
 use native.Mathlib.Omega.{arith}
 use native.Mathlib.Numerals.{add-one}
-use mathlib.Core.Path.{◌≡◌, sym, ◌∙◌}
+use mathlib.Core.Path.{◌≡◌, refl, sym, ◌∙◌, ap, subst}
+use mathlib.Core.Bool.{Bool, true, false}
 use mathlib.Core.Logic.{⊎_elim}
 use mathlib.Core.List.{List}
 use lib.Dec.{eqb}
-use lib.ListN.{length, get_or}
+use lib.ListN.{length, get_or, get_or-eq_default}
 use borrow.Author.Tests.{eqb-true, eqb-false}
-use Rattle.laws.proofs.Cases.{side, same_or}
+use Rattle.std.specs.Bool.{MatchBool}
+use Rattle.std.specs.List.{slice_get}
+use Rattle.std.specs.Prelude.{Option}
+use Rattle.std.specs.Option.{unwrap_or}
+use Rattle.std.proofs.lemmas.Option.{unwrap_or-slice_get}
+use Rattle.std.specs.List.Sorted.{IsNonDecreasing}
+use Rattle.laws.proofs.Cases.{side}
+use Rattle.laws.proofs.Deciding.{differ, decides_no}
 use Rattle.laws.specs.Decides.{Decides}
 use Rattle.table.specs.Instructions.{negation}
 use Rattle.table.specs.Table.{Table, begins}
@@ -17,7 +25,13 @@ use Rattle.table.proofs.Tabulated.{length-tabulate, at_tabulated}
 use Rattle.layout.proofs.TableLaws.{instruction_at}
 use Rattle.layout.proofs.Tables.{decode_table}
 use Rattle.fitness.specs.Inside.Parts.{signals, processes, instructions, Rows, Ready}
-use Rattle.fitness.proofs.Kind.{Kind, kind_of_lem}
+use Rattle.kind.specs.declared.Kind.{Kind}
+use Rattle.kind.specs.declared.Kind.TheVariants.{Assignment}
+use Rattle.kind.specs.Numbers.{number_of}
+use Rattle.kind.proofs.Numbers.{one_kind}
+use Rattle.fitness.specs.Inside.Kinds.{about_below}
+use Rattle.fitness.specs.Inside.Drivers.{Posts}
+use Rattle.fitness.proofs.Kind.{Means, means}
 
 -- from 0 on
 module _ (w : List ℕ) where
@@ -75,29 +89,44 @@ module _ (t : Table) (n m : ℕ) where
       (λ g. ⊎_elim (λ l. absurd (row-once r q p i b a l qh pl)) (λ l. omega arith) (side q p))
       (side p q)
 
-abbrev pub RisingTo : Table → ℕ → Type 0
-RisingTo t p = (q : ℕ) → q < p → begins t q ≤ begins t (suc q)
+-- the ends of the processes as a list, and whether it is sorted
+module _ (t : Table) (n m : ℕ) (es : List ℕ) (long : length es ≡ n) (each : (p : ℕ) → p < n → begins t (suc p) ≡ get_or es p 0) where
+  sorted_rising : IsNonDecreasing es → (p : ℕ) → p < n → begins t p ≤ begins t (suc p)
+  sorted_rising s zero l = omega arith
+  sorted_rising s (suc p) l = omega (arith, each p (omega arith), each (suc p) l, s p (suc p) 0 (omega arith) (omega arith))
 
-module _ (w : List ℕ) (p from : ℕ) (l : p < processes w) (e : from ≡ begins (decode_table w) p) where
-  pub ends_bad : (m : ℕ) → get_or w (131 + p) 0 < from → Rows (decode_table w) (processes w) m → ⊥
-  ends_bad m h r = omega (arith, r.rising p l, begins-word w p l)
+  last_end : (k : ℕ) → k ≡ n → get_or es (k - 1) 0 ≡ begins t k
+  last_end zero e = get_or-eq_default es 0 {n = 0} (omega arith)
+  last_end (suc k) e = let q : suc k - 1 ≡ k = omega arith in rw q (sym (each k (omega arith)))
 
-  pub ends_more : from ≤ get_or w (131 + p) 0 → RisingTo (decode_table w) p → RisingTo (decode_table w) (p + 1)
-  ends_more h a q k = ⊎_elim (λ z. rw z (omega (arith, begins-word w p l))) (λ n. a q (omega arith)) (same_or q p)
+  pub ends-sorted : (last : ℕ) → last ≡ get_or es (length es - 1) 0 → (r : Bool)
+      → MatchBool r (IsNonDecreasing es) ((k : ℕ) × (k + 1 < length es) × ((d : ℕ) → get_or es (k + 1) d < get_or es k d)) → r ≡ true → Decides (eqb last m) (Rows t n m)
+  ends-sorted last e true s h =
+      let q : last ≡ begins t n = e ∙ ap (λ k. get_or es (k - 1) 0) long ∙ last_end n refl in
+      record {
+        holds = λ z. record { rising = sorted_rising s; cover = sym q ∙ eqb-true last m z };
+        fails = λ z r. eqb-false last m z (q ∙ r.cover);
+      }
+  ends-sorted last e false s h = differ (sym h)
 
-pub ends-done : (t : Table) (n m p from : ℕ) → n ≡ p → from ≡ begins t p → RisingTo t p → Decides (eqb from m) (Rows t n m)
-ends-done t n m p from h e a =
-    rw h
-    (record {
-      holds = λ z. record { rising = a; cover = sym e ∙ eqb-true from m z };
-      fails = λ z r. eqb-false from m z (e ∙ r.cover);
-    })
+  pub ends_unsorted : (r : Bool) → MatchBool r (IsNonDecreasing es) ((k : ℕ) × (k + 1 < length es) × ((d : ℕ) → get_or es (k + 1) d < get_or es k d)) → r ≡ false
+      → Decides r (Rows t n m)
+  ends_unsorted true s h = differ h
+  ends_unsorted false s h =
+      let k = s.0 in
+      let l : suc k < n = omega (arith, s.1) in
+      let d : get_or es (suc k) 0 < get_or es k 0 = rw (← add-one k) (s.2 0) in
+      decides_no _ (λ r. omega (arith, r.rising (suc k) l, each k (omega arith), each (suc k) l))
 
--- an instruction of legal words is what the number of its kind says
-pub kind_at : (w : List ℕ) → Ready w → (x : ℕ) → x < instructions w
-    → Kind (get_or w (195 + x) 0 % 16) (get_or w (195 + x) 0 / 16) (at (decode_table w).code x)
+pub last_item : (es : List ℕ) (last copied : Option ℕ) (r : ℕ) → r ≡ unwrap_or copied 0 → copied ≡ last → last ≡ slice_get es (length es - 1)
+    → r ≡ get_or es (length es - 1) 0
+last_item es last copied r p q s = p ∙ ap (λ o. unwrap_or o 0) (q ∙ s) ∙ unwrap_or-slice_get es (length es - 1) 0
+
+-- an instruction of legal words is what its kind says
+pub means_at : (w : List ℕ) (x : ℕ) (kind : Kind) → x < instructions w → number_of kind ≡ get_or w (195 + x) 0 % 16
+    → Means kind (get_or w (195 + x) 0 / 16) (at (decode_table w).code x)
 unfolding instruction_at
-kind_at w r x l = rw (code-word w x l) (kind_of_lem (signals w) _ _ (r.legal x l))
+means_at w x kind l e = rw (code-word w x l) (means kind _ _ e)
 
 -- a process's instructions stand among all
 pub begins-low : (w : List ℕ) → Ready w → (p : ℕ) → p < processes w
@@ -105,3 +134,27 @@ pub begins-low : (w : List ℕ) → Ready w → (p : ℕ) → p < processes w
 begins-low w r p l =
     let q = rows-low (decode_table w) (processes w) (instructions w) r.rows p l in
     (omega (arith, begins-word w p l), omega (arith, begins-word w p l))
+
+-- an assignment posts the signal that it is about, and nothing else posts
+module _ (w : List ℕ) (ready : Ready w) (x : ℕ) (l : x < instructions w) where
+  abbrev operation : ℕ
+  operation = get_or w (195 + x) 0
+
+  pub assignment-posts : operation % 16 ≡ 9 → Posts (at (decode_table w).code x) (operation / 16)
+  assignment-posts e = (means_at w x Assignment l (sym e)).posting refl
+
+  pub posts-only : operation % 16 ≡ 9 → (k : ℕ) → Posts (at (decode_table w).code x) k → k ≡ operation / 16
+  posts-only e k p = ((means_at w x Assignment l (sym e)).posted k p).1
+
+  pub posts-signal : operation % 16 ≡ 9 → operation / 16 < 64
+  posts-signal e =
+      let h = ready.legal x l in
+      let q : h.kind ≡ Assignment = one_kind h.kind Assignment (h.exists ∙ e) in
+      let b : operation / 16 < signals w = subst (λ k. operation / 16 < about_below (signals w) k) q h.about in
+      omega (arith, ready.few.few_signals)
+
+  pub posts-nothing : (operation % 16 ≡ 9 → ⊥) → (k : ℕ) → Posts (at (decode_table w).code x) k → ⊥
+  posts-nothing n k p =
+      let h = ready.legal x l in
+      let q = (means_at w x h.kind l h.exists).posted k p in
+      n (sym h.exists ∙ ap number_of q.0)

@@ -1,5 +1,5 @@
 -- Words are fit just where each part that is tested is. Assumes nothing.
-use Prim.Native.Nat.{ℕ, ◌+◌, ◌-◌, ◌*◌, ◌/◌, ◌%◌, ◌^◌, ◌≤◌, ◌<◌}
+use Prim.Native.Nat.{ℕ, ◌+◌, ◌-◌, ◌/◌, ◌^◌, ◌≤◌, ◌<◌}
 use native.Mathlib.Omega.{arith}
 use native.Mathlib.Nat.{pow-le-pow_right}
 use mathlib.Core.Path.{◌≡◌, refl, sym, ◌∙◌, ap, subst}
@@ -17,9 +17,11 @@ use Rattle.layout.specs.TableWords.{operation_word, delay_word, FitTableWords}
 use Rattle.layout.proofs.TableLaws.{instruction_at, words_small, operation_at, delay_at}
 use Rattle.layout.proofs.Tables.{decode_table}
 use Rattle.layout.proofs.Decoded.{PlainTable, plain-table-holds, plain-fit-table, fit-plain-table}
-use Rattle.fitness.specs.Inside.Kinds.{about_below, delay_below, Legal, Legals}
+use Rattle.kind.specs.declared.Kind.TheVariants.{Name, Literal, Not, And, Or, Nand, Nor, Xor, Xnor, Assignment, Test, Skip}
+use Rattle.fitness.specs.Inside.Kinds.{Legal, Legals}
 use Rattle.fitness.specs.Inside.Parts.{signals, processes, instructions, Within, Few, Used, Unused, Rows, Sounds, Ready}
 use Rattle.fitness.specs.Inside.Drivers.{Alone}
+use Rattle.fitness.specs.Inside.Tested.{Tested}
 use Rattle.fitness.proofs.Kind.{legal-words, legal-exists}
 use Rattle.fitness.proofs.Reading.{count-signals, count-listeners, count-processes, count-instructions, listeners-word, code-word, rows-low}
 use Rattle.fitness.proofs.Owners.{drives-posts, posts-drives}
@@ -35,24 +37,20 @@ pub part-zero : (w : List ℕ) (base n m : ℕ) → Within w (base + n) (base + 
 part-zero w base n m z k lo hi = omega (arith, z (base + k) (omega arith) (omega arith))
 
 -- the words of an instruction of a fit table are legal
-legal_at : (s o d a k : ℕ) → o / 16 ≡ a → o % 16 ≡ k → k < 12 → a < about_below s k → d < delay_below k → Legal s o d
-legal_at s o d a k p q l x y = record { exists = rw q l; about = rw (p, q) x; short = rw q y }
-
 legal_of : (s : ℕ) (i : Instruction) → Exists s i → operation_word i / 16 ≤ 4096 → Legal s (operation_word i) (delay_word i)
-unfolding about_below delay_below
-legal_of s (name k) h l = legal_at s (0 + 16 * k) 0 k 0 (omega arith) (omega arith) (omega arith) h (omega arith)
-legal_of s (literal true) h l = legal_at s 17 0 1 1 refl refl (omega arith) (omega arith) (omega arith)
-legal_of s (literal false) h l = legal_at s 1 0 0 1 refl refl (omega arith) (omega arith) (omega arith)
-legal_of s negation h l = legal_at s 2 0 0 2 refl refl (omega arith) (omega arith) (omega arith)
-legal_of s (binary AND) h l = legal_at s 3 0 0 3 refl refl (omega arith) (omega arith) (omega arith)
-legal_of s (binary OR) h l = legal_at s 4 0 0 4 refl refl (omega arith) (omega arith) (omega arith)
-legal_of s (binary NAND) h l = legal_at s 5 0 0 5 refl refl (omega arith) (omega arith) (omega arith)
-legal_of s (binary NOR) h l = legal_at s 6 0 0 6 refl refl (omega arith) (omega arith) (omega arith)
-legal_of s (binary XOR) h l = legal_at s 7 0 0 7 refl refl (omega arith) (omega arith) (omega arith)
-legal_of s (binary XNOR) h l = legal_at s 8 0 0 8 refl refl (omega arith) (omega arith) (omega arith)
-legal_of s (assignment k d) h l = legal_at s (9 + 16 * k) d k 9 (omega arith) (omega arith) (omega arith) h.0 (omega arith)
-legal_of s (test t) h l = legal_at s (10 + 16 * t) 0 t 10 (omega arith) (omega arith) (omega arith) (omega arith) (omega arith)
-legal_of s (skip t) h l = legal_at s (11 + 16 * t) 0 t 11 (omega arith) (omega arith) (omega arith) (omega arith) (omega arith)
+legal_of s (name k) h l = record { kind = Name; exists = omega arith; about = omega arith; short = omega arith }
+legal_of s (literal true) h l = record { kind = Literal; exists = refl; about = omega arith; short = omega arith }
+legal_of s (literal false) h l = record { kind = Literal; exists = refl; about = omega arith; short = omega arith }
+legal_of s negation h l = record { kind = Not; exists = refl; about = omega arith; short = omega arith }
+legal_of s (binary AND) h l = record { kind = And; exists = refl; about = omega arith; short = omega arith }
+legal_of s (binary OR) h l = record { kind = Or; exists = refl; about = omega arith; short = omega arith }
+legal_of s (binary NAND) h l = record { kind = Nand; exists = refl; about = omega arith; short = omega arith }
+legal_of s (binary NOR) h l = record { kind = Nor; exists = refl; about = omega arith; short = omega arith }
+legal_of s (binary XOR) h l = record { kind = Xor; exists = refl; about = omega arith; short = omega arith }
+legal_of s (binary XNOR) h l = record { kind = Xnor; exists = refl; about = omega arith; short = omega arith }
+legal_of s (assignment k d) h l = let a = h.0 in let b = h.1 in record { kind = Assignment; exists = omega arith; about = omega arith; short = omega arith }
+legal_of s (test t) h l = record { kind = Test; exists = omega arith; about = omega arith; short = omega arith }
+legal_of s (skip t) h l = record { kind = Skip; exists = omega arith; about = omega arith; short = omega arith }
 
 -- FIT WORDS PASS EACH TEST
 
@@ -72,7 +70,7 @@ module _ (w : List ℕ) (words-fit : FitTableWords w) where
         few_instructions = omega (arith, count-instructions w, fits.few_instructions);
       }
 
-  pub fit-used : Used w
+  fit-used : Used w
   fit-used =
       let s = fit-few.few_signals in
       record {
@@ -81,7 +79,7 @@ module _ (w : List ℕ) (words-fit : FitTableWords w) where
             (λ k l. omega (arith, listeners-word w k l, subst (λ n. get_or (decode_table w).listeners k 0 < 2 ^ n) (count-processes w) (fits.woken k))) lo hi;
       }
 
-  pub fit-unused : Unused w
+  fit-unused : Unused w
   fit-unused =
       record {
         no_values = zero-part w 3 (signals w) 64 plain.no_initial;
@@ -98,7 +96,7 @@ module _ (w : List ℕ) (words-fit : FitTableWords w) where
         cover = ap (begins (decode_table w)) (sym (count-processes w)) ∙ fits.cover ∙ count-instructions w;
       }
 
-  pub fit_legals : Legals w (signals w) (instructions w)
+  fit_legals : Legals w (signals w) (instructions w)
   fit_legals x l =
       let h = plain-table-holds w plain in
       let m : x < length (decode_table w).code = omega (arith, count-instructions w) in
@@ -109,7 +107,7 @@ module _ (w : List ℕ) (words-fit : FitTableWords w) where
   pub fit-ready : Ready w
   fit-ready = record { few = fit-few; rows = fit-rows; legal = fit_legals }
 
-  pub fit_sounds : Sounds (decode_table w) (processes w)
+  fit_sounds : Sounds (decode_table w) (processes w)
   fit_sounds p l = fits.sound p (omega (arith, count-processes w))
 
   pub fit-alone : Alone (decode_table w) (processes w)
@@ -120,12 +118,17 @@ module _ (w : List ℕ) (words-fit : FitTableWords w) where
       fits.alone p q k (omega (arith, count-processes w)) (omega (arith, count-processes w))
       (drives-posts (decode_table w) p x.0 (omega arith) k c) (drives-posts (decode_table w) q y.0 (omega arith) k d)
 
+  pub pass_each : Tested w
+  pass_each = record { ready = fit-ready; unused = fit-unused; used = fit-used; sound = fit_sounds; alone = fit-alone }
+
 -- AND WORDS THAT PASS ALL ARE FIT
 
 some_power : (n : ℕ) → 1 ≤ 2 ^ n
 some_power n = pow-le-pow_right {n = 2} (omega arith) {i = 0} {j = n} (omega arith)
 
-module _ (w : List ℕ) (ready : Ready w) (used : Used w) (unused : Unused w) (sounds : Sounds (decode_table w) (processes w)) (alone : Alone (decode_table w) (processes w)) where
+module _ (w : List ℕ) (tested : Tested w) where
+  open tested use {ready, unused, used, sound, alone}
+
   plainly : PlainTable w
   unfolding instruction_at
   plainly =
@@ -170,7 +173,7 @@ module _ (w : List ℕ) (ready : Ready w) (used : Used w) (unused : Unused w) (s
         rising = λ q l. rows.rising q (omega arith);
         cover = ap (begins (decode_table w)) p ∙ rows.cover ∙ sym n;
         exists = λ x l. rw s (exist x (omega arith));
-        sound = λ q l. sounds q (omega arith);
+        sound = λ q l. sound q (omega arith);
         alone = λ q r k a b c d.
             let x = rows-low (decode_table w) (processes w) (instructions w) rows q (omega arith) in
             let y = rows-low (decode_table w) (processes w) (instructions w) rows r (omega arith) in

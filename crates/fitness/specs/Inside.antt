@@ -3,3 +3,4 @@ pub mod Kinds
 pub mod Parts
 pub mod Heights
 pub mod Drivers
+pub mod Tested

@@ -1,5 +1,6 @@
-// Numbers of operands: one pass over the instructions, which writes down with how many each is reached.
-ghost use Rattle.std.specs.Prelude.{◌≡◌, true, ◌≤◌, ◌<◌, length, get_or};
+// Numbers of operands: one pass over the instructions, which writes down with how many each is reached: one more, and 0 where it is not.
+// Kept: an Option for each of the 4,097 takes two bytes, and the stack that the C interface promises has no room for them.
+ghost use Rattle.std.specs.Prelude.{◌≡◌, ◌≤◌, ◌<◌, length, get_or};
 ghost use Rattle.laws.specs.Decides.{Decides};
 ghost use Rattle.layout.proofs.Tables.{decode_table};
 ghost use Rattle.fitness.specs.Inside.Parts.{processes, instructions, Ready, Sounds};
@@ -7,40 +8,34 @@ ghost use Rattle.fitness.specs.Inside.Kinds.{Forward};
 ghost use Rattle.fitness.specs.Inside.Heights.{PutAs, Stepped, Fresh, Passed};
 
 use crate::kinds::{leaves_of, takes_of};
+use kind::Kind;
 
-// Puts h at j where go says so, unless another stands there.
-pub fn put(go: bool, hs: &mut [u8], j: usize, h: u8) -> bool
-    requires { go ≡ true → j < length hs.old }
-    ensures { PutAs go hs.old j h result hs.new }
+// Puts h at j, unless another stands there.
+fn put(hs: &mut [u8], j: usize, h: u8) -> bool
+    requires { j < length hs.old }
+    ensures { PutAs hs.old j h result hs.new }
 {
-    if go {
-        let old = hs[j];
-        if old == 0 {
-            hs[j] = h;
-            return true;
-        }
-        return old == h;
+    let old = hs[j];
+    if old == 0 {
+        hs[j] = h;
+        return true;
     }
-    true
+    old == h
 }
 
 // Whether a jump goes strictly forward, and not past the end.
-fn ahead(kind: usize, about: usize, x: usize, upto: usize) -> bool
+fn ahead(kind: Kind, about: usize, x: usize, upto: usize) -> bool
     ensures { Decides result (Forward upto x kind about) }
 {
-    if kind < 10 {
+    if !matches!(kind, Kind::Test | Kind::Skip) {
         return true;
     }
-    if about <= x {
-        return false;
-    }
-    about <= upto
+    x < about && about <= upto
 }
 
 // Does an instruction to the heights.
-fn step(hs: &mut [u8], kind: usize, about: usize, x: usize, upto: usize) -> bool
+fn step(hs: &mut [u8], kind: Kind, about: usize, x: usize, upto: usize) -> bool
     requires hs_len { length hs.old ≡ 4097 }
-    requires kind_bound { kind < 12 }
     requires x_lt_upto { x < upto }
     requires upto_bound { upto ≤ 4096 }
     requires forward { Forward upto x kind about }
@@ -59,12 +54,11 @@ fn step(hs: &mut [u8], kind: usize, about: usize, x: usize, upto: usize) -> bool
     if 35 < left {
         return false;
     }
-    let on = kind != 11;
-    if !put(on, hs, x + 1, left) {
-        return false;
+    match kind {
+        Kind::Test => put(hs, x + 1, left) && put(hs, about, left),
+        Kind::Skip => put(hs, about, left),
+        _ => put(hs, x + 1, left),
     }
-    let jumps = 10 <= kind;
-    put(jumps, hs, about, left)
 }
 
 // The heights of the instructions of one process.
@@ -75,18 +69,15 @@ fn heights(words: &[u64], hs: &mut [u8], from: usize, upto: usize) -> bool
     requires fresh { Fresh from hs.old }
     ensures { Passed (decode_table words.now).code from upto result hs.new }
 {
-    let mut x = from;
-    while x < upto {
+    for x in from..upto {
         let operation = words[195 + x];
-        let kind = (operation % 16) as usize;
         let about = (operation / 16) as usize;
-        if !ahead(kind, about, x, upto) {
+        let Ok(kind) = Kind::try_from(operation % 16) else {
+            return false;
+        };
+        if !ahead(kind, about, x, upto) || !step(hs, kind, about, x, upto) {
             return false;
         }
-        if !step(hs, kind, about, x, upto) {
-            return false;
-        }
-        x += 1;
     }
     if 1 < hs[upto] {
         return false;
@@ -104,14 +95,12 @@ pub fn sounds(words: &[u64]) -> bool
     let mut hs = [0u8; 4097];
     hs[0] = 1;
     let mut from = 0;
-    let mut p = 0;
-    while p < processes {
+    for p in 0..processes {
         let end = words[131 + p] as usize;
         if !heights(words, &mut hs, from, end) {
             return false;
         }
         from = end;
-        p += 1;
     }
     true
 }

@@ -1,64 +1,61 @@
-// Instructions by the numbers of their kinds.
-ghost use Rattle.std.specs.Prelude.{◌≡◌, ◌<◌};
+// What the kind of an instruction says of it, and whether its words keep its kind's sizes.
+ghost use Rattle.std.specs.Prelude.{◌≡◌};
 ghost use Rattle.laws.specs.Decides.{Decides};
 ghost use Rattle.fitness.specs.Inside.Parts.{signals, instructions, Few};
 ghost use Rattle.fitness.specs.Inside.Kinds.{takes_of, leaves_of, about_below, delay_below, Legal, Legals};
 
-const TAKES: [u8; 12] = [0, 0, 1, 2, 2, 2, 2, 2, 2, 1, 1, 0];
-// What an instruction is about is below this, or, where it is a signal, below the number of signals.
-const ABOUT: [u64; 12] = [0, 2, 1, 1, 1, 1, 1, 1, 1, 0, 4097, 4097];
+use kind::Kind;
 
 const ABOVE_LONGEST: u64 = 1_000_000_000_000_000_001;
 
+// By kind, how many operands an instruction takes.
+// Kept: with a `match` over the kinds in place of the three tables fit_table took an eighth longer.
+const TAKES: [u8; 12] = [0, 0, 1, 2, 2, 2, 2, 2, 2, 1, 1, 0];
+// By kind, what an instruction is about is below this, or, where it is a signal, below the number of signals.
+const ABOUT: [u64; 12] = [0, 2, 1, 1, 1, 1, 1, 1, 1, 0, 4097, 4097];
+// By kind, its delay is below this.
 const DELAY: [u64; 12] = [1, 1, 1, 1, 1, 1, 1, 1, 1, ABOVE_LONGEST, 1, 1];
 
 // How many operands an instruction takes.
-pub fn takes_of(kind: usize) -> u8
-    requires { kind < 12 }
+pub fn takes_of(kind: Kind) -> u8
     ensures { result ≡ takes_of kind }
 {
-    TAKES[kind]
+    TAKES[kind as usize]
 }
 
 // How many operands an instruction leaves.
-pub fn leaves_of(kind: usize) -> u8
+pub fn leaves_of(kind: Kind) -> u8
     ensures { result ≡ leaves_of kind }
 {
-    if kind < 9 {
-        return 1;
+    match kind {
+        Kind::Assignment | Kind::Test | Kind::Skip => 0,
+        _ => 1,
     }
-    0
 }
 
-fn about_below(signals: u64, kind: usize) -> u64
-    requires { kind < 12 }
+fn about_below(signals: u64, kind: Kind) -> u64
     ensures { result ≡ about_below signals kind }
 {
     match kind {
-        0 | 9 => signals,
-        _ => ABOUT[kind],
+        Kind::Name | Kind::Assignment => signals,
+        _ => ABOUT[kind as usize],
     }
 }
 
-fn delay_below(kind: usize) -> u64
-    requires { kind < 12 }
+fn delay_below(kind: Kind) -> u64
     ensures { result ≡ delay_below kind }
 {
-    DELAY[kind]
+    DELAY[kind as usize]
 }
 
 // Whether the words of an instruction keep their kinds and sizes.
 fn legal(signals: u64, operation: u64, delay: u64) -> bool
     ensures { Decides result (Legal signals operation delay) }
 {
-    let kind = (operation % 16) as usize;
-    if 12 <= kind {
-        return false;
+    match Kind::try_from(operation % 16) {
+        Ok(kind) => operation / 16 < about_below(signals, kind) && delay < delay_below(kind),
+        Err(_) => false,
     }
-    if about_below(signals, kind) <= operation / 16 {
-        return false;
-    }
-    delay < delay_below(kind)
 }
 
 // Whether those of all instructions do.
@@ -68,12 +65,10 @@ pub fn legals(words: &[u64]) -> bool
 {
     let signals = words[0];
     let instructions = words[2] as usize;
-    let mut x = 0;
-    while x < instructions {
-        if !legal(signals, words[195 + x], words[4291 + x]) {
-            return false;
-        }
-        x += 1;
-    }
-    true
+    let operations = &words[195..195 + instructions];
+    let delays = &words[4291..4291 + instructions];
+    operations
+        .iter()
+        .zip(delays)
+        .all(|(&operation, &delay)| legal(signals, operation, delay))
 }

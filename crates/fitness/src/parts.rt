@@ -9,14 +9,7 @@ pub fn within(words: &[u64], from: usize, upto: usize, top: u64) -> bool
     requires { upto ≤ length words.now }
     ensures { Decides result (Within words.now from upto top) }
 {
-    let mut j = from;
-    while j < upto {
-        if top < words[j] {
-            return false;
-        }
-        j += 1;
-    }
-    true
+    words[..upto].iter().skip(from).all(|&word| word <= top)
 }
 
 // Whether the words from one place up to another are zero. With no way out of the loop it runs on wide registers.
@@ -25,11 +18,9 @@ pub fn zeros(words: &[u64], from: usize, upto: usize) -> bool
     requires upto_in_bounds { upto ≤ length words.now }
     ensures { Decides result (Within words.now from upto 0) }
 {
-    let mut all: u64 = 0;
-    let mut j = from;
-    while j < upto {
-        all = all | words[j];
-        j += 1;
+    let mut all = 0;
+    for word in &words[from..upto] {
+        all |= *word;
     }
     all == 0
 }
@@ -39,29 +30,17 @@ fn most_of(n: u64) -> u64
     requires { n ≤ 64 }
     ensures { result + 1 ≡ 2 ^ n }
 {
-    let mut most: u64 = 0;
-    let mut k: u64 = 0;
-    while k < n {
-        most = most * 2 + 1;
-        k += 1;
+    match 1u64.checked_shl(n as u32) {
+        Some(power) => power - 1,
+        None => u64::MAX,
     }
-    most
 }
 
 // Whether a table's words are long enough, and its counts keep the sizes.
 pub fn few(words: &[u64]) -> bool
     ensures { Decides result (Few words.now) }
 {
-    if words.len() < 8387 {
-        return false;
-    }
-    if 64 < words[0] {
-        return false;
-    }
-    if 64 < words[1] {
-        return false;
-    }
-    words[2] <= 4096
+    8387 <= words.len() && words[0] <= 64 && words[1] <= 64 && words[2] <= 4096
 }
 
 // Whether starting values are yes-or-nos, and signals wake no process that is not there.
@@ -70,11 +49,8 @@ pub fn used(words: &[u64]) -> bool
     ensures { Decides result (Used words.now) }
 {
     let signals = words[0] as usize;
-    if !within(words, 3, 3 + signals, 1) {
-        return false;
-    }
     let top = most_of(words[1]);
-    within(words, 67, 67 + signals, top)
+    within(words, 3, 3 + signals, 1) && within(words, 67, 67 + signals, top)
 }
 
 // Whether unused words are zero.
@@ -85,19 +61,11 @@ pub fn unused(words: &[u64]) -> bool
     let signals = words[0] as usize;
     let processes = words[1] as usize;
     let instructions = words[2] as usize;
-    if !zeros(words, 3 + signals, 67) {
-        return false;
-    }
-    if !zeros(words, 67 + signals, 131) {
-        return false;
-    }
-    if !zeros(words, 131 + processes, 195) {
-        return false;
-    }
-    if !zeros(words, 195 + instructions, 4291) {
-        return false;
-    }
-    zeros(words, 4291 + instructions, 8387)
+    zeros(words, 3 + signals, 67)
+        && zeros(words, 67 + signals, 131)
+        && zeros(words, 131 + processes, 195)
+        && zeros(words, 195 + instructions, 4291)
+        && zeros(words, 4291 + instructions, 8387)
 }
 
 // Whether the processes' instructions follow one another without gap and cover all.
@@ -106,15 +74,7 @@ pub fn ends(words: &[u64]) -> bool
     ensures { Decides result (Rows (decode_table words.now) (processes words.now) (instructions words.now)) }
 {
     let processes = words[1] as usize;
-    let mut from: u64 = 0;
-    let mut p: usize = 0;
-    while p < processes {
-        let end = words[131 + p];
-        if end < from {
-            return false;
-        }
-        from = end;
-        p += 1;
-    }
-    from == words[2]
+    let ends = &words[131..131 + processes];
+    let last = ends.last().copied().unwrap_or(0);
+    ends.is_sorted() && last == words[2]
 }

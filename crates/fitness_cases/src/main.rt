@@ -12,22 +12,15 @@ use std::io::Read;
 
 // The value of digits; 0 where it does not fit.
 fn number(digits: &[u8]) -> u64 {
-    let mut sum: u64 = 0;
-    let mut i = 0;
-    while i < digits.len() {
-        let digit = (digits[i] % 16) as u64;
-        if (18_446_744_073_709_551_615 - digit) / 10 < sum {
-            return 0;
-        }
-        sum = sum * 10 + digit;
-        i += 1;
-    }
-    sum
+    let value = digits.iter().try_fold(0u64, |sum, digit| {
+        sum.checked_mul(10)?.checked_add(u64::from(*digit % 16))
+    });
+    value.unwrap_or(0)
 }
 
 fn put(words: &mut [u64], place: usize, value: u64) {
-    if place < words.len() {
-        words[place] = value;
+    if let Some(word) = words.get_mut(place) {
+        *word = value;
     }
 }
 
@@ -35,25 +28,14 @@ fn put(words: &mut [u64], place: usize, value: u64) {
 fn repeat(words: &mut [u64], place: usize, count: u64) {
     if place < words.len() {
         let value = words[place];
-        let mut at = place;
-        let mut k: u64 = 0;
-        while k < count {
-            if words.len() - at < 2 {
-                return;
-            }
-            at += 1;
-            words[at] = value;
-            k += 1;
-        }
+        let next = &mut words[place + 1..];
+        let count = next.len().min(count as usize);
+        next[..count].fill(value);
     }
 }
 
 fn say(rt: &impl Print, fit: bool) -> io::Result<()> {
-    if fit {
-        rt.write_all(b"fit\n")
-    } else {
-        rt.write_all(b"unfit\n")
-    }
+    println!(rt; "{}", if fit { "fit" } else { "unfit" })
 }
 
 fn table_line(rt: &impl Print, table: &[u64], count: usize) -> io::Result<()> {
@@ -68,7 +50,7 @@ fn session_line(rt: &impl Print, table: &[u64], session: &[u64], count: usize) -
         if fit_table(table) {
             say(rt, fit_session(table, &session[0..count]))?;
         } else {
-            rt.write_all(b"no table\n")?;
+            println!(rt; "no table")?;
         }
     }
     Ok(())
@@ -110,12 +92,10 @@ fn run_all<R: Read>(
     table: &mut [u64],
     session: &mut [u64],
 ) -> io::Result<()> {
-    let mut turns: u64 = 1_000_000;
-    while 0 < turns {
+    for _ in 0..1_000_000 {
         if !run_next(rt, input, table, session)? {
             return Ok(());
         }
-        turns -= 1;
     }
     Ok(())
 }

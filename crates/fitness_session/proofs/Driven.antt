@@ -5,7 +5,7 @@ use mathlib.Core.Path.{◌≡◌, refl, sym, subst}
 use mathlib.Core.Bool.{Bool, true, false, ◌||◌}
 use mathlib.Core.List.{List}
 use lib.ListN.{length, get_or}
-use Rattle.laws.proofs.Cases.{some}
+use Rattle.std.specs.Prelude.{Option, Some, None}
 use Rattle.laws.proofs.Deciding.{differ}
 use Rattle.rules.specs.Runner.{Runner}
 use Rattle.rules.specs.Session.{driven}
@@ -47,22 +47,24 @@ posts-exists (assignment j d) s k p e = subst (λ x. x < s) p e.0
 posts-exists (test t) s k p e = absurd p
 posts-exists (skip t) s k p e = absurd p
 
-module _ (w own : List ℕ) (rows : Rows (decode_table w) (processes w) (instructions w)) (o : Owned (decode_table w) (processes w) (instructions w) own) where
+none_some : (q : ℕ) (o : Option ℕ) → o ≡ None → o ≡ Some q → ⊥
+none_some q o a b = cc
+
+module _ (w : List ℕ) (own : List (Option ℕ)) (rows : Rows (decode_table w) (processes w) (instructions w)) (o : Owned (decode_table w) (processes w) (instructions w) own) where
   low : (p : ℕ) → p < processes w → (begins (decode_table w) p ≤ begins (decode_table w) (suc p)) × (begins (decode_table w) (suc p) ≤ length (decode_table w).code)
   low p l =
       let q = rows-low (decode_table w) (processes w) (instructions w) rows p l in
       (q.0, omega (arith, count-instructions w))
 
-  pub driven-known : (k : ℕ) → (get_or own k 0 ≡ 0 → ⊥) → driven (runners (decode_table w)) k ≡ true
+  pub driven-known : (k q : ℕ) → get_or own k None ≡ Some q → driven (runners (decode_table w)) k ≡ true
   unfolding runners runner
-  driven-known k n =
-      let q = some (get_or own k 0) n in
-      let d = o.known k q.0 q.1 in
-      let b = low q.0 d.0 in
-      driven_by (runner (decode_table w)) 0 (length (decode_table w).ends) q.0 k (omega arith) (omega (arith, d.0, count-processes w))
-      (drives-posts (decode_table w) q.0 b.0 b.1 k d.1)
+  driven-known k q e =
+      let d = o.known k q e in
+      let b = low q d.0 in
+      driven_by (runner (decode_table w)) 0 (length (decode_table w).ends) q k (omega arith) (omega (arith, d.0, count-processes w))
+      (drives-posts (decode_table w) q b.0 b.1 k d.1)
 
-  pub driven-none : (k : ℕ) → get_or own k 0 ≡ 0 → driven (runners (decode_table w)) k ≡ false
+  pub driven-none : (k : ℕ) → get_or own k None ≡ None → driven (runners (decode_table w)) k ≡ false
   unfolding runners runner
   driven-none k z = go (driven (tabulate (runner (decode_table w)) 0 (length (decode_table w).ends)) k) refl
     where
@@ -73,17 +75,12 @@ module _ (w own : List ℕ) (rows : Rows (decode_table w) (processes w) (instruc
           let d = driver_of (runner (decode_table w)) 0 (length (decode_table w).ends) k e in
           let l : d.process < processes w = omega (arith, d.below, count-processes w) in
           let b = low d.process l in
-          absurd
-          (omega (
-            arith,
-            own-known (decode_table w) (processes w) (instructions w) own rows o d.process k l
-                (posts-drives (decode_table w) d.process b.0 b.1 k d.drives),
-          ))
+          absurd (none_some d.process _ z (own-known (decode_table w) (processes w) (instructions w) own rows o d.process k l
+          (posts-drives (decode_table w) d.process b.0 b.1 k d.drives)))
 
   -- a signal that has a driver is there
-  pub driven-exists : FitTable (decode_table w) → (k : ℕ) → (get_or own k 0 ≡ 0 → ⊥) → k < length (decode_table w).initial
-  driven-exists f k n =
-      let q = some (get_or own k 0) n in
-      let d = o.known k q.0 q.1 in
-      let b = low q.0 d.0 in
+  pub driven-exists : FitTable (decode_table w) → (k q : ℕ) → get_or own k None ≡ Some q → k < length (decode_table w).initial
+  driven-exists f k q e =
+      let d = o.known k q e in
+      let b = low q d.0 in
       posts-exists (at (decode_table w).code d.1.place) (length (decode_table w).initial) k d.1.posts (f.exists d.1.place (omega (arith, d.1.before)))

@@ -3,11 +3,11 @@ use Prim.Native.Nat.{ℕ, ◌+◌, ◌*◌, ◌/◌, ◌≤◌, ◌<◌}
 use native.Mathlib.Omega.{arith}
 use mathlib.Core.Path.{◌≡◌, refl, sym, ◌∙◌, ap, subst}
 use mathlib.Core.Bool.{Bool, false}
-use mathlib.Core.Logic.{⊎_elim}
+use mathlib.Core.Logic.{◌⊎◌, inl, inr, ⊎_elim}
 use mathlib.Core.List.{List, []}
 use lib.ListN.{length, get_or, get_or-eq_default}
-use borrow.Author.Tests.{eq-eqb, ne_eqb}
-use Rattle.laws.proofs.Cases.{side, same_or}
+use Rattle.std.specs.Prelude.{Option, Some, None}
+use Rattle.laws.proofs.Cases.{side}
 use Rattle.laws.specs.Decides.{Decides}
 use Rattle.laws.proofs.Deciding.{differ, one_answer}
 use Rattle.laws.proofs.Ranges.{in_part}
@@ -32,16 +32,17 @@ use Rattle.fitness.proofs.Whole.{zero-part, part-zero}
 use Rattle.fitness_session.specs.Inside.Parts.{Head, most_for, Signals}
 use Rattle.fitness_session.proofs.Driven.{driven-known, driven-none, driven-exists}
 
-most_none : (driver : ℕ) → driver ≡ 0 → most_for driver ≡ 0
-unfolding most_for
-most_none driver e = rw (eq-eqb driver 0 e)
+-- a signal has a driver or none
+owner : (o : Option ℕ) → (o ≡ None) ⊎ ((q : ℕ) × (o ≡ Some q))
+owner None = inl refl
+owner (Some q) = inr (q, refl)
 
-most_some : (driver : ℕ) → (driver ≡ 0 → ⊥) → most_for driver ≡ 16
-unfolding most_for
-most_some driver n = rw (ne_eqb driver 0 n)
+most_none : (driver : Option ℕ) → driver ≡ None → most_for driver ≡ 0
+most_none driver e = rw e
 
-pub most_few : (driver : ℕ) → most_for driver ≤ 16
-most_few driver = ⊎_elim (λ e. omega (arith, most_none driver e)) (λ n. omega (arith, most_some driver n)) (same_or driver 0)
+pub most_few : (driver : Option ℕ) → most_for driver ≤ 16
+most_few None = omega arith
+most_few (Some q) = omega arith
 
 -- A FIT SESSION'S WORDS PASS EACH TEST
 
@@ -61,10 +62,10 @@ module _ (w v : List ℕ) (fits : FitTable (decode_table w)) (s : Session) (h : 
         no_values = zero-part v 2 (signals w) 64 (λ k a b. values-unused v s h k (omega (arith, count)) b);
       }
 
-module _ (w v own : List ℕ) (fits : FitTable (decode_table w)) (rows : Rows (decode_table w) (processes w) (instructions w))
+module _ (w v : List ℕ) (own : List (Option ℕ)) (fits : FitTable (decode_table w)) (rows : Rows (decode_table w) (processes w) (instructions w))
     (o : Owned (decode_table w) (processes w) (instructions w) own) where
   module _ (s : Session) (h : HoldsSession v s) (g : FitSession (runners (decode_table w)) (length (decode_table w).initial) s) where
-    idle : (k : ℕ) → k < 64 → get_or own k 0 ≡ 0 → get_or v (66 + k) 0 ≡ 0
+    idle : (k : ℕ) → k < 64 → get_or own k None ≡ None → get_or v (66 + k) 0 ≡ 0
     idle k l e = pending_at v s h k l ∙ ap length (g.idle k (driven-none w own rows o k e))
 
     pub fit-signals : Signals v own 64
@@ -72,8 +73,8 @@ module _ (w v own : List ℕ) (fits : FitTable (decode_table w)) (rows : Rows (d
         record {
           few = ⊎_elim
               (λ e. omega (arith, idle k l e))
-              (λ n. omega (arith, most_some (get_or own k 0) n, pending_most _ _ v s h g k l))
-              (same_or (get_or own k 0) 0);
+              (λ n. rw n.1 (pending_most _ _ v s h g k l))
+              (owner (get_or own k None));
           changes = record {
             later = λ j m. change-later _ _ v s h g k j l m;
             near = λ j m. change-near _ _ v s h g k j l m;
@@ -92,9 +93,9 @@ module _ (w v own : List ℕ) (fits : FitTable (decode_table w)) (rows : Rows (d
     beyond : (k : ℕ) → get_or v 0 0 ≤ k → k < 64 → get_or v (66 + k) 0 ≡ 0
     beyond k a l =
         ⊎_elim
-        (λ e. omega (arith, (all k l).few, most_none (get_or own k 0) e))
-        (λ n. absurd (omega (arith, driven-exists w own rows o fits k n, count-signals w, head.count)))
-        (same_or (get_or own k 0) 0)
+        (λ e. omega (arith, (all k l).few, most_none (get_or own k None) e))
+        (λ n. absurd (omega (arith, driven-exists w own rows o fits k n.0 n.1, count-signals w, head.count)))
+        (owner (get_or own k None))
 
     plainly : PlainSession v
     plainly =
@@ -157,9 +158,9 @@ module _ (w v own : List ℕ) (fits : FitTable (decode_table w)) (rows : Rows (d
         let l : k < 64 = omega (arith, head.count, few-signals) in
         pending_in k u
         ∙ no_changes_lem k (⊎_elim
-        (λ z. omega (arith, (all k l).few, most_none (get_or own k 0) z))
-        (λ n. differ (sym (driven-known w own rows o k n) ∙ e))
-        (same_or (get_or own k 0) 0)))
+        (λ z. omega (arith, (all k l).few, most_none (get_or own k None) z))
+        (λ n. differ (sym (driven-known w own rows o k n.0 n.1) ∙ e))
+        (owner (get_or own k None))))
         (λ u. pending-out k u)
         (side k (get_or v 0 0))
 
@@ -177,7 +178,7 @@ module _ (w v own : List ℕ) (fits : FitTable (decode_table w)) (rows : Rows (d
               (λ k l. each_from (λ c. c.time ≤ get_or v 1 0 + longest) (changes_at v k) none
               (λ j m. omega (arith, change_in_lem k j m, (all k l).changes.near j (omega (arith, length-changes k))))) k);
           few = pendings (λ cs. length cs ≤ most_pending) (omega arith)
-              (λ k l. omega (arith, length-changes k, (all k l).few, most_few (get_or own k 0)));
+              (λ k l. omega (arith, length-changes k, (all k l).few, most_few (get_or own k None)));
           rising = pendings Rising tt
               (λ k l. rising-from (changes_at v k) none
               (λ i j m b. omega (

@@ -20,20 +20,12 @@ fn head(words: &[u64], signals: u64) -> bool
     requires { signals ≤ 64 }
     ensures { Decides result (Head words.now signals) }
 {
-    if words.len() < 1154 {
-        return false;
-    }
-    if words[0] != signals {
-        return false;
-    }
-    if LONGEST < words[1] {
-        return false;
-    }
     let end = 2 + signals as usize;
-    if !within(words, 2, end, 1) {
-        return false;
-    }
-    zeros(words, end, 66)
+    1154 <= words.len()
+        && words[0] == signals
+        && words[1] <= LONGEST
+        && within(words, 2, end, 1)
+        && zeros(words, end, 66)
 }
 
 // Whether the changes of one signal are later than the time, near, and rising, with zeros behind them.
@@ -44,59 +36,46 @@ fn changes(words: &[u64], from: usize, count: usize, time: u64) -> bool
     ensures { Decides result (Changes words.now from count time) }
 {
     let mut last = time;
-    let mut j = 0;
-    while j < count {
-        let next = words[from + j] / 2;
+    for word in &words[from..from + count] {
+        let next = *word / 2;
         if next <= last {
             return false;
         }
         last = next;
-        j += 1;
     }
-    if time + LONGEST < last {
-        return false;
-    }
-    zeros(words, from + count, from + 16)
+    last <= time + LONGEST && zeros(words, from + count, from + 16)
 }
 
 // How many changes may be pending for a signal with this driver.
-fn most_for(driver: u8) -> u64
+fn most_for(driver: Option<u8>) -> u64
     ensures { result ≡ most_for driver }
 {
-    if driver == 0 {
-        return 0;
+    match driver {
+        Some(_) => 16,
+        None => 0,
     }
-    16
 }
 
 // Whether what is pending for signal k is fit.
-fn signal(words: &[u64], driver: u8, k: usize) -> bool
+fn signal(words: &[u64], driver: Option<u8>, k: usize) -> bool
     requires in_bounds { 1154 ≤ length words.now }
     requires words_bound { get_or words.now 1 0 ≤ longest }
     requires k_bound { k < 64 }
     ensures { Decides result (Signal words.now driver k) }
 {
     let count = words[66 + k];
-    if most_for(driver) < count {
-        return false;
-    }
-    changes(words, 130 + 16 * k, count as usize, words[1])
+    count <= most_for(driver) && changes(words, 130 + 16 * k, count as usize, words[1])
 }
 
 // Whether what is pending for each signal is fit.
-fn signals(words: &[u64], own: &[u8; 64]) -> bool
+fn signals(words: &[u64], own: &[Option<u8>; 64]) -> bool
     requires in_bounds { 1154 ≤ length words.now }
     requires words_bound { get_or words.now 1 0 ≤ longest }
     ensures { Decides result (Signals words.now own.now 64) }
 {
-    let mut k = 0;
-    while k < 64 {
-        if !signal(words, own[k], k) {
-            return false;
-        }
-        k += 1;
-    }
-    true
+    own.iter()
+        .enumerate()
+        .all(|(k, &driver)| signal(words, driver, k))
 }
 
 // Whether the first 1,154 words hold a session that is fit for the table that the table's words hold.
@@ -107,9 +86,8 @@ pub fn fit_session(table: &[u64], words: &[u64]) -> bool
     if !head(words, table[0]) {
         return false;
     }
-    let mut own = [0u8; 64];
-    if !owners(table, &mut own) {
-        return false;
+    match owners(table) {
+        Some(own) => signals(words, &own),
+        None => false,
     }
-    signals(words, &own)
 }

@@ -1,11 +1,20 @@
 -- The header's lines, one behind the other, and its names.
 -- Assumes nothing.
-use Prim.Native.Nat.{ℕ, zero, suc, ◌+◌, ◌*◌, ◌-◌, ◌<◌, ◌≤◌}
+use Prim.Native.Nat.{ℕ, suc, ◌+◌, ◌*◌, ◌-◌, ◌<◌, ◌≤◌}
 use native.Mathlib.Omega.{arith}
 use native.Mathlib.Numerals.{add-one}
 use mathlib.Core.Path.{◌≡◌, refl, sym, ap, ◌∙◌, subst}
 use mathlib.Core.List.{List, [], ◌∷◌, ◌++◌, append_assoc}
-use lib.ListN.{length, get_or, length-append, length-map}
+use lib.ListN.{length, get_or, take, drop, length-append, length-map}
+use lib.Seq.{sets}
+use Rattle.std.proofs.lemmas.List.{take_at, drop_at, length-take-le}
+use Rattle.std.proofs.lemmas.List.Edits.{sets-eq}
+use borrow.Rule.Slice.PartMut.{put_mid}
+use mathlib.Core.List.{map}
+use Rattle.std.specs.List.{between}
+use Rattle.std.specs.Char.{to_ascii_lowercase}
+use Rattle.std.proofs.lemmas.Str.Ascii.{lowercase_is}
+use Rattle.laws.proofs.Ranges.{Ranged, below, inside, above, ranged}
 use Rattle.laws.specs.Text.{bytes}
 use Rattle.words.specs.Token.{Name}
 use Rattle.words.specs.Vocabulary.{lower_of, lower}
@@ -22,20 +31,42 @@ use Rattle.demands.proofs.Header.{accepted-header-fits}
 use Rattle.look.specs.declared.Look.{Look}
 use Rattle.reading.specs.Inside.Spots.{word_of}
 use Rattle.reader.specs.Inside.Designs.{beginning, Survey, Surveyed, accepted_as, refused_as}
-use Rattle.reader.specs.declared.design.Checked.{Checked}
-use Rattle.reader.specs.declared.design.Checked.TheVariants.{Accepted, Refused}
+use Rattle.std.specs.Prelude.{Bool, true, false, eqb, Result, Ok, Err}
+use Rattle.refusal.specs.declared.Refusal.{Refusal}
+use Rattle.refusal.specs.Numbers.{number_of}
 use Rattle.names.specs.Text.{refuses, Gets}
 use Rattle.heading.specs.Headed.{Shows}
 use Rattle.heading.specs.Inside.Lines.{variable}
 
--- a byte of a name in lower case
-pub lower_at : (run : List ℕ) (i : ℕ) → i < length run → get_or (lower run) i 0 ≡ lower_of (get_or run i 0)
-lower_at [] i h = absurd (omega arith)
-lower_at (x ∷ run) zero h = refl
-lower_at (x ∷ run) (suc i) h = lower_at run i (omega arith)
+lowercase_same : (byte : ℕ) → to_ascii_lowercase byte ≡ lower_of byte
+lowercase_same byte = go (ranged 65 90 byte)
+  where
+    go : Ranged 65 90 byte → to_ascii_lowercase byte ≡ lower_of byte
+    go (below w h) = rw w ((lowercase_is byte).1 h)
+    go (inside w g h) = rw w ((lowercase_is byte).0 (g, h))
+    go (above w h) = rw w ((lowercase_is byte).2 h)
+
+lowercase_all : (name : List ℕ) → map to_ascii_lowercase name ≡ lower name
+lowercase_all [] = refl
+lowercase_all (byte ∷ name) = rw (lowercase_same byte, lowercase_all name)
 
 pub lower-length : (run : List ℕ) → length (lower run) ≡ length run
 lower-length run = length-map run lower_of
+
+-- a part that was written, in lower case
+pub lowered : (out : List ℕ) (at after : ℕ) (name part : List ℕ) → after ≡ at + length name → at + length name ≤ length out
+    → part ≡ map to_ascii_lowercase (between at after (sets out at name)) → put_mid at (after - at) (sets out at name) part ≡ sets out at (lower name)
+lowered out at after name part e h w =
+    let rest : List ℕ = drop (at + length name) out in
+    let front : length (take at out) ≡ at = length-take-le at out (omega arith) in
+    let x : sets out at name ≡ take at out ++ (name ++ rest) = sets-eq name out at h ∙ append_assoc (take at out) name rest in
+    let d : drop at (take at out ++ (name ++ rest)) ≡ name ++ rest = drop_at (take at out) (name ++ rest) at front in
+    let k : length name ≡ after - at = omega arith in
+    let p : part ≡ lower name = rw (x, d, take_at name rest (after - at) k, lowercase_all name) at w in
+    let room : at + length (lower name) ≤ length out = rw (lower-length name) h in
+    let y : sets out at (lower name) ≡ take at out ++ (lower name ++ rest) =
+    sets-eq (lower name) out at room ∙ rw (lower-length name) (append_assoc (take at out) (lower name) rest) in
+    rw (x, d, take_at (take at out) (name ++ rest) at front, drop_at name rest (after - at) k, p, y)
 
 -- the line of a signal in front of those of the others
 pub variables_more : (k : ℕ) (n : Name) (ns : List Name) → variables k (n ∷ ns) ≡ variable k n ++ variables (suc k) ns
@@ -43,14 +74,13 @@ unfolding variables variable
 variables_more k n ns =
     ap (λ (l : List ℕ). bytes "$var wire 1 " ++ (identifier k ∷ bytes " " ++ l)) (sym (append_assoc n (bytes " $end\n") (variables (suc k) ns)))
 
-pub line_written : {out o1 o2 o3 o4 o5 : List ℕ} {at a b c d r : ℕ} (k : ℕ) {n : Name} → Writes out at (bytes "$var wire 1 ") a o1 → Writes o1 a (identifier k ∷ []) b o2
-    → Writes o2 b (bytes " ") c o3 → Writes o3 c n d o4 → Writes o4 d (bytes " $end\n") r o5 → Writes out at (variable k n) r o5
+pub line_written : {out o1 o2 o3 o4 : List ℕ} {at a b c r : ℕ} (k : ℕ) {n : Name} → Writes out at (bytes "$var wire 1 ") a o1
+    → Writes o1 a (identifier k ∷ bytes " ") b o2 → Writes o2 b n c o3 → Writes o3 c (bytes " $end\n") r o4 → Writes out at (variable k n) r o4
 unfolding variable
-line_written {out} {o1} {o2} {o3} {o4} {o5} {at} {a} {b} {c} {d} {r} k {n} w1 w2 w3 w4 w5 =
-    writes_both out at (bytes "$var wire 1 ") _ a r o1 o5 w1
-    (writes_both o1 a (identifier k ∷ []) _ b r o2 o5 w2
-    (writes_both o2 b (bytes " ") _ c r o3 o5 w3
-    (writes_both o3 c n (bytes " $end\n") d r o4 o5 w4 w5)))
+line_written {out} {o1} {o2} {o3} {o4} {at} {a} {b} {c} {r} k {n} w1 w2 w3 w4 =
+    writes_both out at (bytes "$var wire 1 ") _ a r o1 o4 w1
+    (writes_both o1 a (identifier k ∷ bytes " ") _ b r o2 o4 w2
+    (writes_both o2 b n (bytes " $end\n") c r o3 o4 w3 w4))
 
 pub variable-length : (k : ℕ) (n : Name) → length (variable k n) ≡ 20 + length n
 unfolding variable
@@ -138,6 +168,18 @@ module _ {s l : List ℕ} (v : Survey s l) where
   pub survey_names : names_from s l 6 (get_or l 2 0) ≡ signal_names v.tree
   survey_names = sym (stands_of v.keeps).signals_are ∙ v.names
 
+  -- the entity's name stands behind the first token
+  behind_first : (word_of s beginning 0).at ≡ (look_of s 0).end
+  unfolding word_of
+  behind_first = go (eqb (look_of s 0).kind 0) refl
+    where
+      go : (b : Bool) → eqb (look_of s 0).kind 0 ≡ b → (word_of s beginning 0).at ≡ (look_of s 0).end
+      go true e = rw e
+      go false e = let z : ◌≡◌ {A = ℕ} 3 0 = rw e at v.begun in absurd (omega arith)
+
+  pub survey_own : {first own : Look} → first ≡ look_of s 0 → own ≡ look_of s first.end → own ≡ look_of s (word_of s beginning 0).at
+  survey_own e g = rw (behind_first, ← e) g
+
   pub survey_fits : (own : Look) → own ≡ look_of s (word_of s beginning 0).at
       → 35 + (length (name_at s own.start own.end) + (6 + (length (variables 0 (names_from s l 6 (get_or l 2 0))) + 35))) ≤ 4096
   unfolding design_header
@@ -154,14 +196,11 @@ module _ {s l : List ℕ} (v : Survey s l) where
 
 -- by the answer of the survey
 
-refused_in : {s l : List ℕ} {number place : ℕ} → Surveyed s (Refused number place) l → Gets s (refuses number place)
-refused_in (refused_as g) = g
+pub survey_refused : {s l : List ℕ} {refusal : Refusal} → Surveyed s (Err refusal) l → Gets s (refuses (number_of refusal.reason) refusal.place)
+survey_refused (refused_as g) = g
 
-pub survey_refused : {s l : List ℕ} {r : Checked} {number place : ℕ} → Surveyed s r l → r ≡ Refused number place → Gets s (refuses number place)
-survey_refused d e = refused_in (rw e at d)
-
-accepted_in : {s l : List ℕ} → Surveyed s Accepted l → Survey s l
+accepted_in : {s l : List ℕ} → Surveyed s (Ok tt) l → Survey s l
 accepted_in (accepted_as x) = x
 
-pub survey_accepted : {s l : List ℕ} {r : Checked} → Surveyed s r l → r ≡ Accepted → Survey s l
+pub survey_accepted : {s l : List ℕ} {r : Result (Unit {0}) Refusal} → Surveyed s r l → r ≡ Ok tt → Survey s l
 survey_accepted d e = accepted_in (rw e at d)

@@ -1,5 +1,6 @@
 -- Lemmas that the proofs of several crates cite.
 pub mod Lists
+pub mod Parts
 pub mod Picks
 pub mod Ranges
 pub mod Table

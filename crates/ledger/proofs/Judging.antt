@@ -1,25 +1,22 @@
 -- Each way that a function judges a token: what the tests say of the words, and what the words stand for then.
 -- Assumes nothing.
-use mathlib.Core.Path.{◌≡◌, sym, ap, ◌∙◌}
+use mathlib.Core.Path.{◌≡◌, refl, sym, ◌∙◌}
 use mathlib.Core.Bool.{Bool, true, false, not}
 use mathlib.Core.List.{List}
-use Prim.Native.Nat.{ℕ, ◌+◌, ◌-◌, ◌*◌, ◌<◌, ◌≤◌}
+use Prim.Native.Nat.{ℕ, ◌+◌, ◌*◌, ◌<◌, ◌≤◌}
 use native.Mathlib.Omega.{arith}
-use native.Mathlib.Decide.{dec_lt}
 use borrow.Author.Tests.{lt-ltb, le-ltb}
-use lib.ListN.{length, get_or, set, drop, length-drop}
-use lib.Seq.{length-take-le}
-use Rattle.laws.specs.Pick.{pick, within, same_list}
+use lib.ListN.{length, get_or, set}
+use Rattle.laws.specs.Pick.{pick, within}
 use Rattle.words.specs.Token.{Name}
 use Rattle.words.specs.Unit.{femtoseconds_of, longest, delay_of}
 use Rattle.words.specs.declared.unit.TimeUnit.{TimeUnit}
-use Rattle.words.specs.declared.unit.Delay.TheVariants.{Femtoseconds, TooLong}
-use Rattle.words.proofs.Same.{same_lengths}
-use Rattle.look.specs.Inside.Looks.{part, name_at}
-use Rattle.names.specs.Roles.{Role, declares, labels, listens, reads, assigns, closes, opens, delays, counts}
-use Rattle.names.specs.Judge.{State, Judgement, fine, refused, judge, number_of, has, undeclared, differs, declared, labelled, opened, assigned, counted}
-use Rattle.ledger.specs.Inside.Standing.{Span, names_from, added, used_in, name_option, Standing, Judges}
-use Rattle.ledger.proofs.Keeping.{refuses, moves, through, signals-count, used_is, number_is_lem, is_undeclared, is_declared}
+use Rattle.std.specs.Prelude.{Some, None}
+use Rattle.look.specs.Inside.Looks.{name_at}
+use Rattle.names.specs.Roles.{Role, declares, labels, listens, reads, assigns, opens, delays, counts}
+use Rattle.names.specs.Judge.{State, Judgement, fine, refused, onward, judge, number_of, has, undeclared, declared, labelled, opened, assigned, counted}
+use Rattle.ledger.specs.Inside.Standing.{Span, names_from, added, used_in, Standing, Keeps, keeps_fine, keeps_refused, Sound, Judges, Numbers, driven, Drives}
+use Rattle.ledger.proofs.Keeping.{refusing, refuses, moves, signals-count, used_is, is_undeclared, is_declared}
 use Rattle.ledger.proofs.Delays.{timed, untimed}
 use Rattle.ledger.proofs.Roles.{declared-stands, labelled-stands, counted-stands, opened-stands, assigned-stands}
 
@@ -74,27 +71,28 @@ module _ (t l : List ℕ) (p : ℕ) (size : length l ≡ 328) (clear : get_or l 
         → {m : List ℕ} → r ≡ get_or l 2 0 → m ≡ set (set l 0 5) 1 p → Judges 0 0 t role p l m
     undeclared-refused role others f h g = refuses 5 g (omega arith) size clear (λ y s. f y ∙ rw (is_undeclared s n r e h))
 
-    module _ (found : r ≡ get_or l 2 0 → ⊥) where
-      pub listen_fine : Judges 0 0 t (listens n) p l l
-      listen_fine = moves clear (λ y. y) (λ y s. rw (is_declared s n r e found)) (λ y s. s)
+    pub listen_fine : r < get_or l 2 0 → Judges 0 0 t (listens n) p l l
+    listen_fine h = moves clear (λ y. y) (λ y s. rw (is_declared s n r e (λ z. omega arith))) (λ y s. s)
 
-      pub read-counted : {m : List ℕ} → Judges 0 0 t (counts 1) p l m → Judges 0 0 t (reads n) p l m
-      read-counted d = through clear (λ y. y) (λ y s. rw (is_declared s n r e found)) (λ y s. s) d
+  -- WHAT A PROCESS ASSIGNS
 
-      module _ (few : r < 64) (b : Bool) (f : b ≡ within 1 (get_or l 4 0) (get_or l (264 + r) 0)) where
-        earlier_is : {y : State} → Standing 0 t l y → has r y.earlier ≡ b
-        earlier_is s = (s.drivers r few).earlier_ones ∙ rw (← s.processes_are) (sym f)
+  module _ (k : ℕ) (few : k < 64) (b : Bool) (f : b ≡ within 1 (get_or l 4 0) (get_or l (264 + k) 0)) where
+    earlier_is : {y : State} → Standing 0 t l y → has k y.earlier ≡ b
+    earlier_is s = (s.drivers k few).earlier_ones ∙ rw (← s.processes_are) (sym f)
 
-        pub assign-refused : {m : List ℕ} → b ≡ true → m ≡ set (set l 0 9) 1 p → Judges 0 0 t (assigns n) p l m
-        assign-refused h g =
-            refuses 9 g (omega arith) size clear (λ y s. rw (is_declared s n r e found, ← (number_is_lem s n r e), earlier_is s ∙ h))
+    pub drive-refused : {m : List ℕ} → b ≡ true → m ≡ set (set l 0 9) 1 p → Drives t k p l m
+    drive-refused {m} h g = record { keeps = go }
+      where
+        go : (j : Judgement) → Keeps 0 t l j → Keeps 0 t m (onward j (λ y. driven k p y))
+        go (fine y) (keeps_fine s) = rw (earlier_is s ∙ h) (keeps_refused (refusing l p 9 g (omega arith) size))
+        go (refused n q) (keeps_refused r) = absurd (omega (arith, r.number_is, r.some))
 
-        pub driven-stands : b ≡ false → {y : State} → Standing 0 t l y → Standing 0 t (set l (264 + r) (get_or l 4 0 + 1)) (assigned r y)
-        driven-stands h s = assigned-stands s r few (earlier_is s ∙ h)
-
-        pub assign-counted : {k m : List ℕ} → b ≡ false → k ≡ set l (264 + r) (get_or l 4 0 + 1) → Judges 0 0 t (counts 1) p k m → Judges 0 0 t (assigns n) p l m
-        assign-counted h g d =
-            through clear (assigned r) (λ y s. rw (is_declared s n r e found, ← (number_is_lem s n r e), earlier_is s ∙ h)) (λ y s. rw g (driven-stands h s)) d
+    pub drive-fine : {m : List ℕ} → b ≡ false → m ≡ set l (264 + k) (get_or l 4 0 + 1) → Drives t k p l m
+    drive-fine {m} h g = record { keeps = go }
+      where
+        go : (j : Judgement) → Keeps 0 t l j → Keeps 0 t m (onward j (λ y. driven k p y))
+        go (fine y) (keeps_fine s) = rw (earlier_is s ∙ h, g) (keeps_fine (assigned-stands s k few (earlier_is s ∙ h)))
+        go (refused n q) (keeps_refused r) = absurd (omega (arith, r.number_is, r.some))
 
   -- NAMES THAT MUST BE THE SAME
 
@@ -108,31 +106,51 @@ module _ (t l : List ℕ) (p : ℕ) (size : length l ≡ 328) (clear : get_or l 
   -- DELAYS
 
   module _ (v : ℕ) (u : TimeUnit) where
-    pub delay-fine : (n : ℕ) → delay_of v u ≡ Femtoseconds n → Judges 0 0 t (delays v u) p l l
+    pub delay-fine : (n : ℕ) → delay_of v u ≡ Some n → Judges 0 0 t (delays v u) p l l
     delay-fine n e =
         moves clear (λ y. y) (λ y s. rw (le-ltb longest (v * femtoseconds_of u) (timed v u n e).0)) (λ y s. s)
 
-    pub delay-refused : {m : List ℕ} → delay_of v u ≡ TooLong → m ≡ set (set l 0 8) 1 p → Judges 0 0 t (delays v u) p l m
+    pub delay-refused : {m : List ℕ} → delay_of v u ≡ None → m ≡ set (set l 0 8) 1 p → Judges 0 0 t (delays v u) p l m
     delay-refused e g =
         refuses 8 g (omega arith) size clear (λ y s. rw (lt-ltb longest (v * femtoseconds_of u) (untimed v u e)))
 
--- A NAME THAT IS MISSING differs from every name
+-- A NAME THAT IS READ OR ASSIGNED is one that is looked up, and more
 
-part_length : (t : List ℕ) (start end : ℕ) → Span t start end → length (part t start end) ≡ end - start
-part_length t start end s = length-take-le (end - start) (drop start t) (rw length-drop (omega (arith, s.rising, s.inside)))
+pub reads_as : (n : Name) (p : ℕ) (y : State) → judge y (reads n) p ≡ onward (judge y (listens n) p) (λ z. judge z (counts 1) p)
+reads_as n p y = go (undeclared n y)
+  where
+    go : (b : Bool) → pick b (refused 5 p) (judge y (counts 1) p) ≡ onward (pick b (refused 5 p) (fine y)) (λ z. judge z (counts 1) p)
+    go true = refl
+    go false = refl
 
-module _ (t : List ℕ) (from to start end : ℕ) (a : Span t from to) (b : Span t start end) (some : start < end) where
-  empty-unlike : to ≤ from → same_list (name_at t from to) (name_at t start end) ≡ false
-  unfolding name_at
-  empty-unlike h =
-      sym (same_lengths (part t from to) (part t start end) (λ z. omega (arith, part_length t from to a, part_length t start end b, a.rising)))
+assigns_as : (n : Name) (p : ℕ) (y : State)
+    → judge y (assigns n) p ≡ onward (onward (judge y (listens n) p) (λ z. driven (number_of n y.signal_names) p z)) (λ z. judge z (counts 1) p)
+assigns_as n p y = go (undeclared n y)
+  where
+    further : (b : Bool) → pick b (refused 9 p) (judge (assigned (number_of n y.signal_names) y) (counts 1) p)
+        ≡ onward (pick b (refused 9 p) (fine (assigned (number_of n y.signal_names) y))) (λ z. judge z (counts 1) p)
+    further true = refl
+    further false = refl
 
-  differs_as : differs (name_option t from to) (name_at t start end) ≡ not (same_list (name_at t from to) (name_at t start end))
-  differs_as = elim (dec_lt from to) [
-    | yes h ↦ rw (lt-ltb from to h)
-    | no h ↦ rw (le-ltb from to (omega arith), empty-unlike (omega arith))
-  ]
+    go : (b : Bool) → pick b (refused 5 p) (pick (has (number_of n y.signal_names) y.earlier) (refused 9 p) (judge (assigned (number_of n y.signal_names) y) (counts 1) p))
+        ≡ onward (onward (pick b (refused 5 p) (fine y)) (λ z. driven (number_of n y.signal_names) p z)) (λ z. judge z (counts 1) p)
+    go true = refl
+    go false = further (has (number_of n y.signal_names) y.earlier)
 
-  pub closes_as : (p : ℕ) (y : State)
-      → judge y (closes (name_option t from to) (name_at t start end)) p ≡ pick (not (same_list (name_at t from to) (name_at t start end))) (refused 7 p) (fine y)
-  closes_as p y = ap (λ (d : Bool). pick d (refused 7 p) (fine y)) differs_as
+pub assign-judges : {t l l1 l2 m : List ℕ} (n : Name) (p : ℕ) {r : ℕ} → Numbers t l n r → Judges 0 0 t (listens n) p l l1 → Drives t r p l1 l2 → Judges 0 0 t (counts 1) p l2 m
+    → Judges 0 0 t (assigns n) p l m
+assign-judges {t} {l} {m = m} n p x d f g = record { keeps = go }
+  where
+    go : (j : Judgement) → Keeps 0 t l j → Keeps 0 t m (onward j (λ y. judge y (assigns n) p))
+    go (fine y) k = rw (assigns_as n p y, ← (x.number_is y k)) (g.keeps _ (f.keeps _ (d.keeps (fine y) k)))
+    go (refused i q) k = g.keeps _ (f.keeps _ (d.keeps (refused i q) k))
+
+pub drive-stays : {t l : List ℕ} (k p : ℕ) → (get_or l 0 0 ≡ 0 → ⊥) → Drives t k p l l
+drive-stays {t} {l} k p h = record { keeps = go }
+  where
+    go : (j : Judgement) → Keeps 0 t l j → Keeps 0 t l (onward j (λ y. driven k p y))
+    go (fine y) (keeps_fine s) = absurd (h s.clear)
+    go (refused n q) (keeps_refused r) = keeps_refused r
+
+pub drives-sound : {t l m : List ℕ} {k p : ℕ} → Drives t k p l m → Sound 0 t l → Sound 0 t m
+drives-sound {k = k} {p = p} d s = record { judgement = onward s.judgement (λ y. driven k p y); keeps = d.keeps s.judgement s.keeps }

@@ -137,6 +137,16 @@ module _ {u : ℕ} {t l : List ℕ} {y : State} (s : Standing u t l y) where
 
 -- JUDGING A TOKEN
 
+-- the words of a refusal say so
+pub refusing : (l : List ℕ) {m : List ℕ} (p n : ℕ) → m ≡ set (set l 0 n) 1 p → 0 < n → length l ≡ 328 → Refusing m n p
+refusing l {m} p n e h size =
+    rw e record {
+      size = length-set (set l 0 n) 1 p ∙ length-set l 0 n ∙ size;
+      number_is = get_or-set_other (set l 0 n) 1 0 p 0 (λ z. omega arith) ∙ get_or-set_same l 0 n 0 (omega arith);
+      place_is = get_or-set_same (set l 0 n) 1 p 0 (omega (arith, length-set l 0 n));
+      some = h;
+    }
+
 module _ {b a : ℕ} {t : List ℕ} {role : Role} {p : ℕ} {l : List ℕ} where
   -- after a refusal nothing changes
   pub stays : (get_or l 0 0 ≡ 0 → ⊥) → Judges b a t role p l l
@@ -151,17 +161,8 @@ module _ {b a : ℕ} {t : List ℕ} {role : Role} {p : ℕ} {l : List ℕ} where
       → ((y : State) → Standing b t l y → judge y role p ≡ refused n p) → Judges b a t role p l m
   refuses n {m} e h size clear f = record { keeps = go }
     where
-      refusing : Refusing m n p
-      refusing =
-          rw e record {
-            size = length-set (set l 0 n) 1 p ∙ length-set l 0 n ∙ size;
-            number_is = get_or-set_other (set l 0 n) 1 0 p 0 (λ z. omega arith) ∙ get_or-set_same l 0 n 0 (omega arith);
-            place_is = get_or-set_same (set l 0 n) 1 p 0 (omega (arith, length-set l 0 n));
-            some = h;
-          }
-
       go : (j : Judgement) → Keeps b t l j → Keeps a t m (onward j (λ y. judge y role p))
-      go (fine y) (keeps_fine s) = rw (f y s) (keeps_refused refusing)
+      go (fine y) (keeps_fine s) = rw (f y s) (keeps_refused (refusing l p n e h size))
       go (refused k q) (keeps_refused r) = absurd (omega (arith, r.number_is, r.some))
 
   -- the token is fine
@@ -173,14 +174,14 @@ module _ {b a : ℕ} {t : List ℕ} {role : Role} {p : ℕ} {l : List ℕ} where
       go (fine y) (keeps_fine s) = rw (e y s) (keeps_fine (f y s))
       go (refused k q) (keeps_refused r) = absurd (omega (arith, r.number_is, r.some))
 
-  -- the token is judged as another role is, in a state whose words are k
-  pub through : {role' : Role} {k m : List ℕ} → get_or l 0 0 ≡ 0 → (z : State → State) → ((y : State) → Standing b t l y → judge y role p ≡ judge (z y) role' p)
-      → ((y : State) → Standing b t l y → Standing b t k (z y)) → Judges b a t role' p k m → Judges b a t role p l m
-  through {k = k} {m = m} clear z e f d = record { keeps = go }
+  -- the token is judged as of one role and then as of another
+  pub both : {c : ℕ} {role1 role2 : Role} {k m : List ℕ} → ((y : State) → judge y role p ≡ onward (judge y role1 p) (λ z. judge z role2 p))
+      → Judges b c t role1 p l k → Judges c a t role2 p k m → Judges b a t role p l m
+  both {role1 = role1} {m = m} e d f = record { keeps = go }
     where
       go : (j : Judgement) → Keeps b t l j → Keeps a t m (onward j (λ y. judge y role p))
-      go (fine y) (keeps_fine s) = rw (e y s) (d.keeps (fine (z y)) (keeps_fine (f y s)))
-      go (refused n q) (keeps_refused r) = absurd (omega (arith, r.number_is, r.some))
+      go (fine y) x = rw (e y) (f.keeps (judge y role1 p) (d.keeps (fine y) x))
+      go (refused n q) x = f.keeps (refused n q) (d.keeps (refused n q) x)
 
   -- and the words after it stand for some judgement too
   pub sound-after : {m : List ℕ} → Judges b a t role p l m → Sound b t l → Sound a t m
@@ -200,7 +201,3 @@ module _ {t l : List ℕ} {n : Name} where
     where
       go : (y : State) → Keeps 0 t l (fine y) → r ≡ number_of n y.signal_names
       go y (keeps_fine s) = number_is_lem s n r e
-
-pub number-below : {t l : List ℕ} (n : Name) (r : ℕ) → Stands 0 t l → r ≡ number_of n (names_from t l 6 (get_or l 2 0)) → (r ≡ get_or l 2 0 → ⊥) → r < 64
-number-below {t} {l} n r x e f =
-    omega (arith, number_most n (names_from t l 6 (get_or l 2 0)), names-length t l 6 (get_or l 2 0), x.stands.few_signals)

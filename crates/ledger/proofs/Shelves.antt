@@ -15,7 +15,9 @@ use Rattle.laws.specs.Pick.{pick, same_list}
 use Rattle.words.specs.Token.{Name}
 use Rattle.look.specs.Inside.Looks.{name_at}
 use Rattle.names.specs.Judge.{is_among, number_of}
-use Rattle.ledger.specs.Inside.Standing.{Span, Shelf, names_from, added}
+use Rattle.ledger.specs.Inside.Standing.{Span, Shelf, names_from, Finds, added}
+use Rattle.std.specs.Prelude.{Some, None, is_some}
+use Rattle.std.specs.Prelude as std
 
 -- THE SEARCH
 
@@ -85,6 +87,11 @@ module _ (t l : List ℕ) (base count : ℕ) (n : Name) (r : ℕ) (e : r ≡ num
 
   pub among-missed : count ≤ r → is_among n (names_from t l base count) ≡ false
   among-missed h = sym among-answer ∙ le-ltb r count h
+
+-- and by what is found
+pub among-finds : (t l : List ℕ) (base count : ℕ) (n : Name) (r : std.Option ℕ) → Finds t l base count n r → is_some r ≡ is_among n (names_from t l base count)
+among-finds t l base count n (Some i) x = sym (among-found t l base count n i x.1 x.0)
+among-finds t l base count n None x = sym (among-missed t l base count n count x (omega arith))
 
 -- WHERE OTHER WORDS CHANGE
 

@@ -3,17 +3,19 @@
 
 pub mod shelf;
 
-ghost use Rattle.std.specs.Prelude.{◌≡◌, not, List, ℕ, ◌<◌, ◌≤◌, get_or};
-ghost use Rattle.laws.specs.Pick.{pick, within, same_list};
+ghost use Rattle.std.specs.Prelude.{◌≡◌, List, ℕ, ◌<◌, ◌≤◌, get_or};
+ghost use Rattle.laws.specs.Pick.{within, same_list};
 ghost use Rattle.words.specs.Integer.{value_of};
 ghost use Rattle.look.specs.Inside.Looks.{part, name_at};
-ghost use Rattle.names.specs.Roles.{Role, declares, labels, listens, reads, assigns, belongs, closes, opens, delays, counts};
-ghost use Rattle.names.specs.Judge.{State, nothing_yet, fine, refused, judge};
-ghost use Rattle.ledger.specs.Inside.Standing.{Span, Shelf, Keeps, Sound, Held, Judges, Numbers, Lasts, used_in, name_option};
+ghost use Rattle.names.specs.Roles.{declares, labels, listens, reads, assigns, belongs, closes, opens, delays, counts};
+ghost use Rattle.names.specs.Judge.{nothing_yet, fine};
+ghost use Rattle.ledger.specs.Inside.Standing.{Span, Shelf, Keeps, Sound, Held, Judges, Numbers, Drives, Lasts, used_in, SpanIfAny, name_if_any};
 
 use crate::shelf::{add, find, refuse};
+use look::Look;
+use refusal::Reason;
 use words::integer::time_of;
-use words::unit::{Delay, TimeUnit};
+use words::unit::TimeUnit;
 use words::vocabulary::same_word;
 
 // The words of a ledger: the number of the first refusal (0: none yet) and its place; how many signals, labels, processes and instructions there are;
@@ -44,54 +46,52 @@ pub fn fresh() -> [u64; 328]
 }
 
 // The name is that of a signal or a label.
-fn is_used(text: &[u8], ledger: &[u64; 328], start: usize, end: usize) -> bool
+fn is_used(text: &[u8], ledger: &[u64; 328], name: Look) -> bool
     requires signals { Shelf text.now ledger.now 6 (get_or ledger.now 2 0) }
     requires labels { Shelf text.now ledger.now 134 (get_or ledger.now 3 0) }
-    requires span { Span text.now start end }
-    ensures { result ≡ used_in text.now ledger.now (name_at text.now start end) }
+    requires span { Span text.now name.start name.end }
+    ensures { result ≡ used_in text.now ledger.now (name_at text.now name.start name.end) }
 {
     let signals = ledger[SIGNALS] as usize;
-    if find(text, ledger, SIGNAL_NAMES, signals, start, end) < signals {
-        return true;
-    }
     let labels = ledger[LABELS] as usize;
-    find(text, ledger, LABEL_NAMES, labels, start, end) < labels
+    find(text, ledger, SIGNAL_NAMES, signals, name).is_some()
+        || find(text, ledger, LABEL_NAMES, labels, name).is_some()
 }
 
 // A name in a declaration of signals.
-pub fn declare(text: &[u8], ledger: &mut [u64; 328], start: usize, end: usize)
+pub fn declare(text: &[u8], ledger: &mut [u64; 328], name: Look)
     requires sound { Sound 0 text.now ledger.old }
-    requires span { Span text.now start end }
-    ensures { Judges 0 0 text.now (declares (name_at text.now start end)) start ledger.old ledger.new }
+    requires span { Span text.now name.start name.end }
+    ensures { Judges 0 0 text.now (declares (name_at text.now name.start name.end)) name.start ledger.old ledger.new }
 {
     if ledger[NUMBER] != 0 {
         return;
     }
-    if is_used(text, ledger, start, end) {
-        refuse(ledger, 6, start);
+    if is_used(text, ledger, name) {
+        refuse(ledger, Reason::Taken, name.start);
         return;
     }
     if ledger[SIGNALS] == 64 {
-        refuse(ledger, 10, start);
+        refuse(ledger, Reason::Size, name.start);
         return;
     }
-    add(ledger, SIGNALS, SIGNAL_NAMES, start, end);
+    add(ledger, SIGNALS, SIGNAL_NAMES, name);
 }
 
 // The label of a process, which is not yet opened.
-pub fn label(text: &[u8], ledger: &mut [u64; 328], start: usize, end: usize)
+pub fn label(text: &[u8], ledger: &mut [u64; 328], name: Look)
     requires sound { Sound 0 text.now ledger.old }
-    requires span { Span text.now start end }
-    ensures { Judges 0 1 text.now (labels (name_at text.now start end)) start ledger.old ledger.new }
+    requires span { Span text.now name.start name.end }
+    ensures { Judges 0 1 text.now (labels (name_at text.now name.start name.end)) name.start ledger.old ledger.new }
 {
     if ledger[NUMBER] != 0 {
         return;
     }
-    if is_used(text, ledger, start, end) {
-        refuse(ledger, 6, start);
+    if is_used(text, ledger, name) {
+        refuse(ledger, Reason::Taken, name.start);
         return;
     }
-    add(ledger, LABELS, LABEL_NAMES, start, end);
+    add(ledger, LABELS, LABEL_NAMES, name);
 }
 
 // The word `process` that opens one.
@@ -103,7 +103,7 @@ pub fn open_process(ledger: &mut [u64; 328], start: usize)
         return;
     }
     if ledger[PROCESSES] == 64 {
-        refuse(ledger, 10, start);
+        refuse(ledger, Reason::Size, start);
         return;
     }
     ledger[PROCESSES] += 1;
@@ -120,48 +120,42 @@ pub fn count(ledger: &mut [u64; 328], instructions: u64, start: usize)
     }
     let all = ledger[INSTRUCTIONS] + instructions;
     if all > 4096 {
-        refuse(ledger, 10, start);
+        refuse(ledger, Reason::Size, start);
         return;
     }
     ledger[INSTRUCTIONS] = all;
 }
 
 // A name in a sensitivity list. The answer is the signal's number.
-pub fn listen(text: &[u8], ledger: &mut [u64; 328], start: usize, end: usize) -> usize
+pub fn listen(text: &[u8], ledger: &mut [u64; 328], name: Look) -> usize
     requires sound { Sound 0 text.now ledger.old }
-    requires span { Span text.now start end }
-    ensures judges { Judges 0 0 text.now (listens (name_at text.now start end)) start ledger.old ledger.new }
-    ensures numbers { Numbers text.now ledger.old (name_at text.now start end) result }
+    requires span { Span text.now name.start name.end }
+    ensures judges { Judges 0 0 text.now (listens (name_at text.now name.start name.end)) name.start ledger.old ledger.new }
+    ensures numbers { Numbers text.now ledger.old (name_at text.now name.start name.end) result }
+    ensures below { get_or ledger.new 0 0 ≡ 0 → result < 64 }
 {
     if ledger[NUMBER] != 0 {
         return 0;
     }
     let signals = ledger[SIGNALS] as usize;
-    let number = find(text, ledger, SIGNAL_NAMES, signals, start, end);
-    if number == signals {
-        refuse(ledger, 5, start);
-        return number;
+    match find(text, ledger, SIGNAL_NAMES, signals, name) {
+        Some(number) => number,
+        None => {
+            refuse(ledger, Reason::Unknown, name.start);
+            signals
+        }
     }
-    number
 }
 
 // A name in an expression. The answer is the signal's number.
-pub fn read_signal(text: &[u8], ledger: &mut [u64; 328], start: usize, end: usize) -> usize
+pub fn read_signal(text: &[u8], ledger: &mut [u64; 328], name: Look) -> usize
     requires sound { Sound 0 text.now ledger.old }
-    requires span { Span text.now start end }
-    ensures judges { Judges 0 0 text.now (reads (name_at text.now start end)) start ledger.old ledger.new }
-    ensures numbers { Numbers text.now ledger.old (name_at text.now start end) result }
+    requires span { Span text.now name.start name.end }
+    ensures judges { Judges 0 0 text.now (reads (name_at text.now name.start name.end)) name.start ledger.old ledger.new }
+    ensures numbers { Numbers text.now ledger.old (name_at text.now name.start name.end) result }
 {
-    if ledger[NUMBER] != 0 {
-        return 0;
-    }
-    let signals = ledger[SIGNALS] as usize;
-    let number = find(text, ledger, SIGNAL_NAMES, signals, start, end);
-    if number == signals {
-        refuse(ledger, 5, start);
-        return number;
-    }
-    count(ledger, 1, start);
+    let number = listen(text, ledger, name);
+    count(ledger, 1, name.start);
     number
 }
 
@@ -169,102 +163,95 @@ pub fn read_signal(text: &[u8], ledger: &mut [u64; 328], start: usize, end: usiz
 fn is_earlier(driver: u64, processes: u64) -> bool
     ensures { result ≡ within 1 processes driver }
 {
-    if driver < 1 {
-        return false;
+    1 <= driver && driver <= processes
+}
+
+// The last process assigns a signal.
+fn drive(ledger: &mut [u64; 328], signal: usize, start: usize)
+    requires held { Held 0 ledger.old }
+    requires signal_bound { get_or ledger.old 0 0 ≡ 0 → signal < 64 }
+    ensures { (text : List ℕ) → Drives text signal start ledger.old ledger.new }
+{
+    if ledger[NUMBER] != 0 {
+        return;
     }
-    driver <= processes
+    let processes = ledger[PROCESSES];
+    if is_earlier(ledger[DRIVERS + signal], processes) {
+        refuse(ledger, Reason::Driver, start);
+        return;
+    }
+    ledger[DRIVERS + signal] = processes + 1;
 }
 
 // A name left of `<=`. The answer is the signal's number.
-pub fn assign(text: &[u8], ledger: &mut [u64; 328], start: usize, end: usize) -> usize
+pub fn assign(text: &[u8], ledger: &mut [u64; 328], name: Look) -> usize
     requires sound { Sound 0 text.now ledger.old }
-    requires span { Span text.now start end }
-    ensures judges { Judges 0 0 text.now (assigns (name_at text.now start end)) start ledger.old ledger.new }
-    ensures numbers { Numbers text.now ledger.old (name_at text.now start end) result }
+    requires span { Span text.now name.start name.end }
+    ensures judges { Judges 0 0 text.now (assigns (name_at text.now name.start name.end)) name.start ledger.old ledger.new }
+    ensures numbers { Numbers text.now ledger.old (name_at text.now name.start name.end) result }
 {
-    if ledger[NUMBER] != 0 {
-        return 0;
-    }
-    let signals = ledger[SIGNALS] as usize;
-    let number = find(text, ledger, SIGNAL_NAMES, signals, start, end);
-    if number == signals {
-        refuse(ledger, 5, start);
-        return number;
-    }
-    let processes = ledger[PROCESSES];
-    if is_earlier(ledger[DRIVERS + number], processes) {
-        refuse(ledger, 9, start);
-        return number;
-    }
-    ledger[DRIVERS + number] = processes + 1;
-    count(ledger, 1, start);
+    let number = listen(text, ledger, name);
+    drive(ledger, number, name.start);
+    count(ledger, 1, name.start);
     number
 }
 
-// Refused by the number, unless the names from one place and from another are the same.
-fn expect(
-    text: &[u8],
-    ledger: &mut [u64; 328],
-    number: u64,
-    from: usize,
-    to: usize,
-    start: usize,
-    end: usize,
-)
+// Two names of the text are the same.
+fn same_name(text: &[u8], one: Look, other: Look) -> bool
+    requires { Span text.now one.start one.end × Span text.now other.start other.end }
+    ensures { result ≡ same_list (name_at text.now one.start one.end) (name_at text.now other.start other.end) }
+{
+    same_word(&text[one.start..one.end], &text[other.start..other.end])
+}
+
+// The name after `of`, and the entity's own.
+pub fn belong(text: &[u8], ledger: &mut [u64; 328], own: Look, name: Look)
     requires sound { Sound 0 text.now ledger.old }
-    requires span { Span text.now from to × Span text.now start end × (0 < number) }
-    ensures { (role : Role) → ((y : State) → judge y role start ≡ pick (not (same_list (name_at text.now from to) (name_at text.now start end))) (refused number start) (fine y)) → Judges 0 0 text.now role start ledger.old ledger.new }
+    requires span { Span text.now own.start own.end × Span text.now name.start name.end }
+    ensures { Judges 0 0 text.now (belongs (name_at text.now own.start own.end) (name_at text.now name.start name.end)) name.start ledger.old ledger.new }
 {
     if ledger[NUMBER] != 0 {
         return;
     }
-    if same_word(&text[from..to], &text[start..end]) {
+    if same_name(text, own, name) {
         return;
     }
-    refuse(ledger, number, start);
+    refuse(ledger, Reason::Unknown, name.start);
 }
 
-// The name after `of`; the entity's own goes from one place to another.
-pub fn belong(
-    text: &[u8],
-    ledger: &mut [u64; 328],
-    from: usize,
-    to: usize,
-    start: usize,
-    end: usize,
-)
+// A closing name, and the name of what it closes, where that has one.
+pub fn close(text: &[u8], ledger: &mut [u64; 328], own: Option<Look>, name: Look)
     requires sound { Sound 0 text.now ledger.old }
-    requires span { Span text.now from to × Span text.now start end }
-    ensures { Judges 0 0 text.now (belongs (name_at text.now from to) (name_at text.now start end)) start ledger.old ledger.new }
+    requires span { SpanIfAny text.now own × Span text.now name.start name.end }
+    ensures { Judges 0 0 text.now (closes (name_if_any text.now own) (name_at text.now name.start name.end)) name.start ledger.old ledger.new }
 {
-    expect(text, ledger, 5, from, to, start, end);
-}
-
-// A closing name; the name of what it closes goes from one place to another, which are the same where there is none.
-pub fn close(text: &[u8], ledger: &mut [u64; 328], from: usize, to: usize, start: usize, end: usize)
-    requires sound { Sound 0 text.now ledger.old }
-    requires span { Span text.now from to × Span text.now start end × (start < end) }
-    ensures { Judges 0 0 text.now (closes (name_option text.now from to) (name_at text.now start end)) start ledger.old ledger.new }
-{
-    expect(text, ledger, 7, from, to, start, end);
+    if ledger[NUMBER] != 0 {
+        return;
+    }
+    if let Some(own) = own {
+        if same_name(text, own, name) {
+            return;
+        }
+    }
+    refuse(ledger, Reason::Closing, name.start);
 }
 
 // The integer of a delay in a unit. The answer is the delay in femtoseconds.
-pub fn delay(text: &[u8], ledger: &mut [u64; 328], start: usize, end: usize, unit: TimeUnit) -> u64
+pub fn delay(text: &[u8], ledger: &mut [u64; 328], integer: Look, unit: TimeUnit) -> u64
     requires sound { Sound 0 text.now ledger.old }
-    requires span { Span text.now start end }
-    ensures judges { Judges 0 0 text.now (delays (value_of (part text.now start end)) unit) start ledger.old ledger.new }
-    ensures lasts { Lasts ledger.old (value_of (part text.now start end)) unit result }
+    requires span { Span text.now integer.start integer.end }
+    ensures judges { Judges 0 0 text.now (delays (value_of (part text.now integer.start integer.end)) unit) integer.start ledger.old ledger.new }
+    ensures lasts { Lasts ledger.old (value_of (part text.now integer.start integer.end)) unit result }
 {
     if ledger[NUMBER] != 0 {
         return 0;
     }
-    match time_of(&text[start..end], unit) {
-        Delay::Femtoseconds(time) => {
+    match time_of(&text[integer.start..integer.end], unit) {
+        Some(time) => {
             return time;
         }
-        Delay::TooLong => {
-            refuse(ledger, 8, start);
+        None => {
+            refuse(ledger, Reason::Delay, integer.start);
             return 0;
         }
     }

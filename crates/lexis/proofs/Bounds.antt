@@ -11,22 +11,18 @@ use lib.Dec.{eqb}
 use lib.ListN.{length, drop, take, get_or, length-drop}
 use Rattle.laws.proofs.Picks.{pick_both}
 use Rattle.lexis.specs.Byte.{class_of, by_class, in_run}
-use Rattle.lexis.specs.Blank.{dashes_of, step_of, on_step, skip_from}
+use Rattle.std.specs.Prelude.{Option, Some, None, Result, Ok, Err}
+use Rattle.lexis.specs.Blank.{none_at, dashes_of, step_of, on_step, skip_from}
 use Rattle.lexis.specs.Run.{run_length, shape_of}
-use Rattle.lexis.specs.Token.{mark_of, run_token, lexeme_of, placed_at, on_skipped, scan_of}
+use Rattle.lexis.specs.Token.{lexeme, mark_of, run_token, or_refused, lexeme_of, Scan, Within, placed_at, on_skipped, scan_of}
 use Rattle.lexis.specs.declared.byte.Class.{Class}
 use Rattle.lexis.specs.declared.byte.Class.TheVariants.{Letter, Digit, Underscore, Space, LineEnd, Mark, Other, High}
 use Rattle.lexis.specs.declared.blank.Step.{Step}
 use Rattle.lexis.specs.declared.blank.Step.TheVariants.{Pass, Stop, Refuse}
-use Rattle.lexis.specs.declared.blank.Skipped.{Skipped}
-use Rattle.lexis.specs.declared.blank.Skipped.TheVariants.{To, Refused as skip_refused}
-use Rattle.lexis.specs.declared.run.Shape.{Shape}
-use Rattle.lexis.specs.declared.run.Shape.TheVariants.{Word, Integer, Broken}
+use Rattle.lexis.specs.declared.NoToken.{NoToken}
+use Rattle.lexis.specs.declared.token.Kind.{Kind}
 use Rattle.lexis.specs.declared.token.Kind.TheVariants.{Open, Close, Comma, Colon, Semicolon, Arrow, Becomes}
 use Rattle.lexis.specs.declared.token.Lexeme.{Lexeme}
-use Rattle.lexis.specs.declared.token.Lexeme.TheVariants.{Token as lexeme, Nothing, Refused}
-use Rattle.lexis.specs.declared.token.Scan.{Scan}
-use Rattle.lexis.specs.declared.token.Scan.TheVariants.{Token as scanned, End, Refused as scan_refused}
 
 -- RUNS
 
@@ -45,11 +41,11 @@ run_some (b ∷ s) z t = rw t (omega (arith, (run-within (0 + 1) s).0))
 
 -- BLANKS
 
-abbrev pub place_of : Skipped → ℕ
-place_of (To n) = n
-place_of (skip_refused n) = n
+abbrev pub place_of : Result ℕ NoToken → ℕ
+place_of (Ok n) = n
+place_of (Err none) = none.place
 
-on_step_lem : (r : Step) (p q : Skipped) (i k : ℕ) → place_of p ≤ k → place_of q ≤ k → i ≤ k → place_of (on_step r p q (To i) (skip_refused i)) ≤ k
+on_step_lem : (r : Step) (p q : Result ℕ NoToken) (i k : ℕ) → place_of p ≤ k → place_of q ≤ k → i ≤ k → place_of (on_step r p q (Ok i) (Err (none_at i))) ≤ k
 on_step_lem (Pass true) p q i k a b h = a
 on_step_lem (Pass false) p q i k a b h = b
 on_step_lem Stop p q i k a b h = h
@@ -65,15 +61,13 @@ skip-within m i (b ∷ s) =
 -- TOKENS
 
 -- a token of a text of n bytes
-abbrev pub Fits : ℕ → Lexeme → Type 0
-Fits n (lexeme kind length) = (0 < length) × (length ≤ n)
-Fits n Nothing = Unit {0}
-Fits n Refused = Unit {0}
+abbrev pub Fits : ℕ → Option Lexeme → Type 0
+Fits n (Some found) = (0 < found.length) × (found.length ≤ n)
+Fits n None = Unit {0}
 
-run_fits : (n l : ℕ) (w : Shape) → 0 < l → l ≤ n → Fits n (run_token w l)
-run_fits n l Word a b = (a, b)
-run_fits n l Integer a b = (a, b)
-run_fits n l Broken a b = tt
+run_fits : (n l : ℕ) (k : Option Kind) → 0 < l → l ≤ n → Fits n (run_token k l)
+run_fits n l (Some k) a b = (a, b)
+run_fits n l None a b = tt
 
 -- a second byte is there where it is not 0
 second : (s : List ℕ) → eqb (get_or s 1 0) 61 ≡ true → 2 ≤ length s
@@ -94,10 +88,10 @@ mark_fits s z =
     pick_both F (eqb a 44) (lexeme Comma 1) _ (λ _. single) (λ _.
     pick_both F (eqb a 59) (lexeme Semicolon 1) _ (λ _. single) (λ _.
     pick_both F (eqb a 58) _ _ (λ _. pick_both F u (lexeme Becomes 2) (lexeme Colon 1) (λ e. (omega arith, second s e)) (λ _. single)) (λ _.
-    pick_both F (eqb a 60) _ _ (λ _. pick_both F u (lexeme Arrow 2) Refused (λ e. (omega arith, second s e)) (λ _. tt)) (λ _. tt))))))
+    pick_both F (eqb a 60) _ _ (λ _. pick_both F u (lexeme Arrow 2) None (λ e. (omega arith, second s e)) (λ _. tt)) (λ _. tt))))))
 
-by_class_lem : (n : ℕ) (k : Class) (run mark : Lexeme) → (in_run k ≡ true → Fits n run) → Fits n mark
-    → Fits n (by_class k run run run Refused Refused mark Refused Refused)
+by_class_lem : (n : ℕ) (k : Class) (run mark : Option Lexeme) → (in_run k ≡ true → Fits n run) → Fits n mark
+    → Fits n (by_class k run run run None None mark None None)
 by_class_lem n Letter run mark p q = p refl
 by_class_lem n Digit run mark p q = p refl
 by_class_lem n Underscore run mark p q = p refl
@@ -107,30 +101,34 @@ by_class_lem n Mark run mark p q = q
 by_class_lem n Other run mark p q = tt
 by_class_lem n High run mark p q = tt
 
-pub lexeme_fits : (s : List ℕ) → Fits (length s) (lexeme_of s)
+-- nothing stands where the text has ended
+abbrev pub Stands : ℕ → Result (Option Lexeme) NoToken → Type 0
+Stands n (Ok found) = Fits n found
+Stands n (Err none) = Unit {0}
+
+or_refused_lem : (n : ℕ) (x : Option Lexeme) → Fits n x → Stands n (or_refused x)
+or_refused_lem n (Some found) f = f
+or_refused_lem n None f = tt
+
+pub lexeme_fits : (s : List ℕ) → Stands (length s) (lexeme_of s)
 unfolding lexeme_of
 lexeme_fits s =
-    pick_both (Fits (length s)) (eqb (length s) 0) Nothing _ (λ e. tt)
+    pick_both (Stands (length s)) (eqb (length s) 0) (Ok None) _ (λ e. tt)
     (λ e. let z : length s ≡ 0 → ⊥ = eqb-false (length s) 0 e in
-    by_class_lem (length s) (class_of (get_or s 0 0)) _ _
+    or_refused_lem (length s) _
+    (by_class_lem (length s) (class_of (get_or s 0 0)) _ _
     (λ t. run_fits (length s) (run_length 0 s) (shape_of (take (run_length 0 s) s)) (run_some s z t) (omega (arith, (run-within 0 s).1)))
-    (mark_fits s z))
+    (mark_fits s z)))
 
--- what is found in a text of n bytes
-abbrev pub Within : ℕ → Scan → Type 0
-Within n (scanned kind start length) = (0 < length) × (start + length ≤ n)
-Within n End = Unit {0}
-Within n (scan_refused place) = place ≤ n
+placed-within : (n i : ℕ) (x : Result (Option Lexeme) NoToken) → i ≤ n → Stands (n - i) x → Within n (placed_at i x)
+placed-within n i (Ok (Some found)) h f = (f.0, omega (arith, f.1))
+placed-within n i (Ok None) h f = tt
+placed-within n i (Err none) h f = h
 
-placed-within : (n i : ℕ) (x : Lexeme) → i ≤ n → Fits (n - i) x → Within n (placed_at i x)
-placed-within n i (lexeme kind l) h f = (f.0, omega (arith, f.1))
-placed-within n i Nothing h f = tt
-placed-within n i Refused h f = h
-
-on_skipped_lem : (r : Skipped) (s : List ℕ) → place_of r ≤ length s → Within (length s) (on_skipped r s)
-on_skipped_lem (To n) s h =
-    placed-within (length s) n (lexeme_of (drop n s)) h (subst (λ (m : ℕ). Fits m (lexeme_of (drop n s))) (length-drop n s) (lexeme_fits (drop n s)))
-on_skipped_lem (skip_refused n) s h = h
+on_skipped_lem : (r : Result ℕ NoToken) (s : List ℕ) → place_of r ≤ length s → Within (length s) (on_skipped r s)
+on_skipped_lem (Ok n) s h =
+    placed-within (length s) n (lexeme_of (drop n s)) h (subst (λ (m : ℕ). Stands m (lexeme_of (drop n s))) (length-drop n s) (lexeme_fits (drop n s)))
+on_skipped_lem (Err none) s h = h
 
 pub scan_within : (s : List ℕ) → Within (length s) (scan_of s)
 unfolding scan_of

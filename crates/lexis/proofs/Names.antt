@@ -13,22 +13,17 @@ use Rattle.laws.proofs.Picks.{pick_both}
 use Rattle.laws.proofs.Table.{every, first_passes, others_pass}
 use Rattle.words.specs.Token.{Name, Token, name, integer, literal, once, chain, unit, fixed, foreign}
 use Rattle.words.specs.Vocabulary.{lower_of, lower, Row, subset, others, vocabulary, token_at, word_token, row_of}
+use Rattle.std.specs.Prelude.{Option, Some, None, Result, Ok, Err}
 use Rattle.lexis.specs.Byte.{class_of, by_class, is_letter}
 use Rattle.lexis.specs.Blank.{skip_from}
 use Rattle.lexis.specs.Run.{run_length, all_digits, singles, longest_word, shape_of}
-use Rattle.lexis.specs.Token.{mark_of, run_token, lexeme_of, placed_at, on_skipped, scan_of, token_of, Placed, placed_token, on_scan, over_text, tokens_of}
+use Rattle.lexis.specs.Token.{lexeme, mark_of, run_token, or_refused, lexeme_of, Scan, placed_at, on_skipped, scan_of, token_of, Placed, placed_token, on_scan, over_text, tokens_of}
 use Rattle.lexis.specs.declared.byte.Class.{Class}
 use Rattle.lexis.specs.declared.byte.Class.TheVariants.{Letter, Digit, Underscore, Space, LineEnd, Mark, Other, High}
-use Rattle.lexis.specs.declared.blank.Skipped.{Skipped}
-use Rattle.lexis.specs.declared.blank.Skipped.TheVariants.{To, Refused as skip_refused}
-use Rattle.lexis.specs.declared.run.Shape.{Shape}
-use Rattle.lexis.specs.declared.run.Shape.TheVariants.{Word as word, Integer as digits, Broken as broken}
+use Rattle.lexis.specs.declared.NoToken.{NoToken}
 use Rattle.lexis.specs.declared.token.Kind.{Kind}
 use Rattle.lexis.specs.declared.token.Kind.TheVariants.{Word, Integer, Open, Close, Comma, Colon, Semicolon, Arrow, Becomes}
 use Rattle.lexis.specs.declared.token.Lexeme.{Lexeme}
-use Rattle.lexis.specs.declared.token.Lexeme.TheVariants.{Token as lexeme, Nothing, Refused}
-use Rattle.lexis.specs.declared.token.Scan.{Scan}
-use Rattle.lexis.specs.declared.token.Scan.TheVariants.{Token as scanned, End, Refused as scan_refused}
 use Rattle.lexis.proofs.Bounds.{run-within}
 
 -- a token's name, if it is one, is short
@@ -81,9 +76,14 @@ all_plain : T (every (λ r. plain_token r.token) vocabulary)
 unfolding subset others vocabulary
 all_plain = tt
 
+token_at-short : (row : Option ℕ) (w : Name) → length w ≤ longest_word → ShortToken (token_at row w)
+unfolding token_at
+token_at-short (Some k) w h = row-short vocabulary all_plain k w h
+token_at-short None w h = h
+
 word-short : (w : List ℕ) → length w ≤ longest_word → ShortToken (word_token w)
-unfolding word_token token_at
-word-short w h = row-short vocabulary all_plain (row_of w) (lower w) (let e = length-map w lower_of in omega arith)
+unfolding word_token
+word-short w h = token_at-short (row_of w) (lower w) (let e = length-map w lower_of in omega arith)
 
 -- a token of so many bytes
 token-short : (k : Kind) (run : List ℕ) → (k ≡ Word → length run ≤ longest_word) → ShortToken (token_of k run)
@@ -98,35 +98,6 @@ token-short Arrow run h = tt
 token-short Becomes run h = tt
 
 -- SCANS
-
--- a word that is found is short
-abbrev ShortLexeme : Lexeme → Type 0
-ShortLexeme (lexeme k l) = k ≡ Word → l ≤ longest_word
-ShortLexeme Nothing = Unit {0}
-ShortLexeme Refused = Unit {0}
-
-abbrev ShortScan : Scan → Type 0
-ShortScan (scanned k n l) = k ≡ Word → l ≤ longest_word
-ShortScan End = Unit {0}
-ShortScan (scan_refused p) = Unit {0}
-
-abbrev ShortShape : ℕ → Shape → Type 0
-ShortShape l word = l ≤ longest_word
-ShortShape l digits = Unit {0}
-ShortShape l broken = Unit {0}
-
-shape_short : (run : List ℕ) → ShortShape (length run) (shape_of run)
-shape_short run =
-    pick_both (ShortShape (length run)) (all_digits run) digits _ (λ _. tt)
-    (λ _. pick_both (ShortShape (length run)) (ltb longest_word (length run)) broken _ (λ _. tt)
-    (λ e. pick_both (ShortShape (length run)) (singles false run) _ broken
-    (λ _. pick_both (ShortShape (length run)) (is_letter (class_of (get_or run 0 0))) word broken (λ _. ltb-false longest_word (length run) e) (λ _. tt))
-    (λ _. tt)))
-
-run_short : (l : ℕ) (w : Shape) → ShortShape l w → ShortLexeme (run_token w l)
-run_short l word h = λ _. h
-run_short l digits h = λ e. let z : ◌≡◌ {A = ℕ} 0 1 = cc in absurd (omega arith)
-run_short l broken h = tt
 
 -- a mark is no word
 abbrev marks : Kind → Bool
@@ -143,6 +114,36 @@ marks Becomes = true
 not-word : (k : Kind) → marks k ≡ true → k ≡ Word → ⊥
 not-word k e h = let z : ◌≡◌ {A = ℕ} 0 1 = cc (ap marks h) in omega arith
 
+-- a word that is found is short
+abbrev ShortLexeme : Option Lexeme → Type 0
+ShortLexeme (Some found) = found.kind ≡ Word → found.length ≤ longest_word
+ShortLexeme None = Unit {0}
+
+abbrev ShortStart : Result (Option Lexeme) NoToken → Type 0
+ShortStart (Ok found) = ShortLexeme found
+ShortStart (Err none) = Unit {0}
+
+abbrev ShortScan : Scan → Type 0
+ShortScan (Ok (Some found)) = found.kind ≡ Word → found.length ≤ longest_word
+ShortScan (Ok None) = Unit {0}
+ShortScan (Err none) = Unit {0}
+
+abbrev ShortShape : ℕ → Option Kind → Type 0
+ShortShape l (Some k) = k ≡ Word → l ≤ longest_word
+ShortShape l None = Unit {0}
+
+shape_short : (run : List ℕ) → ShortShape (length run) (shape_of run)
+shape_short run =
+    pick_both (ShortShape (length run)) (all_digits run) (Some Integer) _ (λ _ e. absurd (not-word Integer refl e))
+    (λ _. pick_both (ShortShape (length run)) (ltb longest_word (length run)) None _ (λ _. tt)
+    (λ e. pick_both (ShortShape (length run)) (singles false run) _ None
+    (λ _. pick_both (ShortShape (length run)) (is_letter (class_of (get_or run 0 0))) (Some Word) None (λ _ is. ltb-false longest_word (length run) e) (λ _. tt))
+    (λ _. tt)))
+
+run_short : (l : ℕ) (k : Option Kind) → ShortShape l k → ShortLexeme (run_token k l)
+run_short l (Some k) h = h
+run_short l None h = tt
+
 mark_short : (first second : ℕ) → ShortLexeme (mark_of first second)
 unfolding mark_of
 mark_short first second =
@@ -155,9 +156,9 @@ mark_short first second =
     pick_both S (eqb first 58) _ _
     (λ _. pick_both S (eqb second 61) (lexeme Becomes 2) (lexeme Colon 1) (λ _. single Becomes (not-word Becomes refl) 2) (λ _. single Colon (not-word Colon refl) 1)) (λ _.
     pick_both S (eqb first 60) _ _
-    (λ _. pick_both S (eqb second 61) (lexeme Arrow 2) Refused (λ _. single Arrow (not-word Arrow refl) 2) (λ _. tt)) (λ _. tt))))))
+    (λ _. pick_both S (eqb second 61) (lexeme Arrow 2) None (λ _. single Arrow (not-word Arrow refl) 2) (λ _. tt)) (λ _. tt))))))
 
-by_class_lem : (k : Class) (run mark : Lexeme) → ShortLexeme run → ShortLexeme mark → ShortLexeme (by_class k run run run Refused Refused mark Refused Refused)
+by_class_lem : (k : Class) (run mark : Option Lexeme) → ShortLexeme run → ShortLexeme mark → ShortLexeme (by_class k run run run None None mark None None)
 by_class_lem Letter run mark p q = p
 by_class_lem Digit run mark p q = p
 by_class_lem Underscore run mark p q = p
@@ -167,25 +168,30 @@ by_class_lem Mark run mark p q = q
 by_class_lem Other run mark p q = tt
 by_class_lem High run mark p q = tt
 
+start_short : (x : Option Lexeme) → ShortLexeme x → ShortStart (or_refused x)
+start_short (Some found) h = h
+start_short None h = tt
+
 -- the run at the start of a text is as long as what is taken of it
-lexeme_short : (s : List ℕ) → ShortLexeme (lexeme_of s)
+lexeme_short : (s : List ℕ) → ShortStart (lexeme_of s)
 unfolding lexeme_of
 lexeme_short s =
     let l : length (take (run_length 0 s) s) ≡ run_length 0 s = length-take-le (run_length 0 s) s (omega (arith, (run-within 0 s).1)) in
-    pick_both ShortLexeme (eqb (length s) 0) Nothing _ (λ _. tt)
-    (λ _. by_class_lem (class_of (get_or s 0 0)) _ _
+    pick_both ShortStart (eqb (length s) 0) (Ok None) _ (λ _. tt)
+    (λ _. start_short _
+    (by_class_lem (class_of (get_or s 0 0)) _ _
     (run_short (run_length 0 s) (shape_of (take (run_length 0 s) s))
     (subst (λ (n : ℕ). ShortShape n (shape_of (take (run_length 0 s) s))) l (shape_short (take (run_length 0 s) s))))
-    (mark_short (get_or s 0 0) (get_or s 1 0)))
+    (mark_short (get_or s 0 0) (get_or s 1 0))))
 
-placed-short : (n : ℕ) (x : Lexeme) → ShortLexeme x → ShortScan (placed_at n x)
-placed-short n (lexeme k l) h = h
-placed-short n Nothing h = tt
-placed-short n Refused h = tt
+placed-short : (n : ℕ) (x : Result (Option Lexeme) NoToken) → ShortStart x → ShortScan (placed_at n x)
+placed-short n (Ok (Some found)) h = h
+placed-short n (Ok None) h = tt
+placed-short n (Err none) h = tt
 
-skipped-short : (r : Skipped) (s : List ℕ) → ShortScan (on_skipped r s)
-skipped-short (To n) s = placed-short n (lexeme_of (drop n s)) (lexeme_short (drop n s))
-skipped-short (skip_refused n) s = tt
+skipped-short : (r : Result ℕ NoToken) (s : List ℕ) → ShortScan (on_skipped r s)
+skipped-short (Ok n) s = placed-short n (lexeme_of (drop n s)) (lexeme_short (drop n s))
+skipped-short (Err none) s = tt
 
 scan_short : (s : List ℕ) → ShortScan (scan_of s)
 unfolding scan_of
@@ -206,10 +212,10 @@ tokens-short (suc f) i s = go (scan_of s) (scan_short s) (λ n. tokens-short f (
         → ShortNames (tokens_in (on_scan r
         (λ kind start length. placed_token i kind start length s ∷ over_text (λ token rest. token ∷ rest) [] (λ place. []) f (i + (start + length)) (drop (start + length) s))
         [] (λ place. [])))
-    go (scanned k n l) h more =
-        (token-short k (take l (drop n s)) (λ e. let p = h e in omega (arith, length-take l (drop n s))), more (n + l))
-    go End h more = tt
-    go (scan_refused p) h more = tt
+    go (Ok (Some found)) h more =
+        (token-short found.kind (take found.length (drop found.start s)) (λ e. let p = h e in omega (arith, length-take found.length (drop found.start s))), more (found.start + found.length))
+    go (Ok None) h more = tt
+    go (Err none) h more = tt
 
 pub short-names : (text : List ℕ) → ShortNames (tokens_in (tokens_of text))
 unfolding tokens_of

@@ -8,15 +8,11 @@ use native.Mathlib.Nat.{add_assoc}
 use native.Mathlib.Numerals.{add-one}
 use lib.ListN.{length, drop, length-drop, drop_of_length-le}
 use lib.Seq.{drop-drop}
-use Rattle.lexis.specs.Token.{Placed, placed_token, scan_of, over_text}
-use Rattle.lexis.specs.Blank.{skip_from}
-use Rattle.lexis.specs.Token.{lexeme_of}
+use Rattle.std.specs.Prelude.{Option, Some, None, Ok, Err}
+use Rattle.lexis.specs.Blank.{none_at, skip_from}
+use Rattle.lexis.specs.Token.{Placed, placed_token, lexeme_of, Scan, scanned, Within, scan_of, over_text}
 use Rattle.lexis.specs.declared.token.Kind.{Kind}
-use Rattle.lexis.specs.declared.token.Scan.{Scan}
-use Rattle.lexis.specs.declared.token.Scan.TheVariants.{Token as scanned, End, Refused as scan_refused}
-use Rattle.lexis.specs.declared.token.Refusal.{Refusal}
-use Rattle.lexis.specs.declared.token.Refusal.TheVariants.{At, Nowhere}
-use Rattle.lexis.proofs.Bounds.{Within, scan_within}
+use Rattle.lexis.proofs.Bounds.{scan_within}
 
 module _ {A : Type 0} (found : Placed → A → A) (ended : A) (refused : ℕ → A) where
   -- what is made of a text that starts at place i
@@ -32,11 +28,13 @@ module _ {A : Type 0} (found : Placed → A → A) (ended : A) (refused : ℕ �
     where
       by_scan : ((j : ℕ) (t : List ℕ) → length t < f → length t < g → over_text found ended refused f j t ≡ over_text found ended refused g j t)
           → (r : Scan) → scan_of s ≡ r → over_text found ended refused (suc f) i s ≡ over_text found ended refused (suc g) i s
-      by_scan again (scanned k n l) e =
+      by_scan again (Ok (Some token)) e =
+          let n = token.start in
+          let l = token.length in
           let w : (0 < l) × (n + l ≤ length s) = subst (Within (length s)) e (scan_within s) in
-          rw e (ap (found (placed_token i k n l s)) (again (i + (n + l)) (drop (n + l) s) (rw length-drop (omega arith)) (rw length-drop (omega arith))))
-      by_scan again End e = rw e
-      by_scan again (scan_refused p) e = rw e
+          rw e (ap (found (placed_token i token.kind n l s)) (again (i + (n + l)) (drop (n + l) s) (rw length-drop (omega arith)) (rw length-drop (omega arith))))
+      by_scan again (Ok None) e = rw e
+      by_scan again (Err none) e = rw e
 
   module _ (i : ℕ) (s : List ℕ) where
     pub made-token : (k : Kind) (n l : ℕ) → scan_of s ≡ scanned k n l
@@ -47,11 +45,11 @@ module _ {A : Type 0} (found : Placed → A → A) (ended : A) (refused : ℕ �
         rw (add-one, e)
         (ap (found (placed_token i k n l s)) (enough (length s) (length (drop (n + l) s) + 1) (i + (n + l)) (drop (n + l) s) (rw length-drop (omega arith)) (omega arith)))
 
-    pub made_end : scan_of s ≡ End → made i s ≡ ended
+    pub made_end : scan_of s ≡ Ok None → made i s ≡ ended
     unfolding over_text
     made_end e = rw (add-one, e)
 
-    pub made-refused : (p : ℕ) → scan_of s ≡ scan_refused p → made i s ≡ refused (i + p)
+    pub made-refused : (p : ℕ) → scan_of s ≡ Err (none_at p) → made i s ≡ refused (i + p)
     unfolding over_text
     made-refused p e = rw (add-one, e)
 
@@ -67,21 +65,18 @@ module _ {A : Type 0} (found : Placed → A → A) (ended : A) (refused : ℕ �
 
 -- THE FIRST REFUSED PLACE, from place n of the text s on
 
-abbrev pub refused_at : ℕ → List ℕ → Refusal
-refused_at = made (λ token rest. rest) Nowhere At
+abbrev pub refused_at : ℕ → List ℕ → Option ℕ
+refused_at = made (λ token rest. rest) None Some
 
 module _ (s : List ℕ) (n : ℕ) where
   pub refused-token : (k : Kind) (i l : ℕ) → scan_of (drop n s) ≡ scanned k i l → refused_at n (drop n s) ≡ refused_at (n + i + l) (drop (n + i + l) s)
-  refused-token = rest-token (λ token rest. rest) Nowhere At s n
+  refused-token = rest-token (λ token rest. rest) None Some s n
 
-  pub refused_end : scan_of (drop n s) ≡ End → refused_at n (drop n s) ≡ Nowhere
-  refused_end = made_end (λ token rest. rest) Nowhere At n (drop n s)
+  pub refused_end : scan_of (drop n s) ≡ Ok None → refused_at n (drop n s) ≡ None
+  refused_end = made_end (λ token rest. rest) None Some n (drop n s)
 
-  pub refused-place : (p : ℕ) → scan_of (drop n s) ≡ scan_refused p → refused_at n (drop n s) ≡ At (n + p)
-  refused-place = made-refused (λ token rest. rest) Nowhere At n (drop n s)
-
-  pub refused_none : length s ≤ n → refused_at n (drop n s) ≡ Nowhere
-  refused_none = rest-none (λ token rest. rest) Nowhere At s n
+  pub refused-place : (p : ℕ) → scan_of (drop n s) ≡ Err (none_at p) → refused_at n (drop n s) ≡ Some (n + p)
+  refused-place = made-refused (λ token rest. rest) None Some n (drop n s)
 
 -- THE TOKENS, from place n of the text s on
 
@@ -93,7 +88,7 @@ module _ (s : List ℕ) (n : ℕ) where
       → tokens_at n (drop n s) ≡ placed_token n k i l (drop n s) ∷ tokens_at (n + i + l) (drop (n + i + l) s)
   tokens-token = rest-token (λ token rest. token ∷ rest) [] (λ place. []) s n
 
-  pub tokens_end : scan_of (drop n s) ≡ End → tokens_at n (drop n s) ≡ []
+  pub tokens_end : scan_of (drop n s) ≡ Ok None → tokens_at n (drop n s) ≡ []
   tokens_end = made_end (λ token rest. token ∷ rest) [] (λ place. []) n (drop n s)
 
   pub tokens_none : length s ≤ n → tokens_at n (drop n s) ≡ []

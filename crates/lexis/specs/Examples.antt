@@ -1,6 +1,6 @@
 -- Worked examples, computed: case A's tokens with their places, and each rule of 'The text' on both sides.
 -- Assumes nothing.
-use Rattle.std.specs.Prelude.{ℕ, ◌≡◌, refl, List, [], ◌∷◌, ◌++◌}
+use Rattle.std.specs.Prelude.{ℕ, ◌≡◌, refl, List, [], ◌∷◌, ◌++◌, Some, None}
 use Rattle.laws.specs.Pick.{same_list}
 use Rattle.laws.specs.Text.{bytes, lines}
 use Rattle.words.specs.Vocabulary.{subset, others, vocabulary, row_from, row_of, token_at, word_token}
@@ -10,7 +10,6 @@ use Rattle.lexis.specs.Byte.{class_of}
 use Rattle.lexis.specs.Blank.{skip_from}
 use Rattle.lexis.specs.Run.{run_length, all_digits, singles}
 use Rattle.lexis.specs.Token.{Placed, mark_of, lexeme_of, scan_of, over_text, first_refused, tokens_of}
-use Rattle.lexis.specs.declared.token.Refusal.TheVariants.{At, Nowhere}
 
 abbrev at : ℕ → Token → Placed
 at start token = record { token = token; start = start }
@@ -52,15 +51,15 @@ colon_apart : tokens_of (bytes ": (") ≡ at 0 (fixed COLON) ∷ at 2 (fixed OPE
 unfolding class_of skip_from run_length all_digits singles mark_of lexeme_of scan_of over_text tokens_of subset others vocabulary row_from row_of token_at word_token same_list
 colon_apart = refl
 
-equals_apart : first_refused (bytes ": =") ≡ At 2
+equals_apart : first_refused (bytes ": =") ≡ Some 2
 unfolding class_of skip_from run_length all_digits singles mark_of lexeme_of scan_of over_text first_refused
 equals_apart = refl
 
-less-alone : first_refused (bytes "a < b") ≡ At 2
+less-alone : first_refused (bytes "a < b") ≡ Some 2
 unfolding class_of skip_from run_length all_digits singles mark_of lexeme_of scan_of over_text first_refused
 less-alone = refl
 
-dash_alone : first_refused (bytes "a - b") ≡ At 2
+dash_alone : first_refused (bytes "a - b") ≡ Some 2
 unfolding class_of skip_from run_length all_digits singles mark_of lexeme_of scan_of over_text first_refused
 dash_alone = refl
 
@@ -74,33 +73,33 @@ zeros : tokens_of (bytes "007 0") ≡ at 0 (integer 7) ∷ at 4 (integer 0) ∷ 
 unfolding class_of skip_from run_length all_digits singles mark_of lexeme_of scan_of over_text tokens_of subset others vocabulary row_from row_of token_at word_token same_list
 zeros = refl
 
-last_underscore : first_refused (bytes "a a_") ≡ At 2
+last_underscore : first_refused (bytes "a a_") ≡ Some 2
 unfolding class_of skip_from run_length all_digits singles mark_of lexeme_of scan_of over_text first_refused
 last_underscore = refl
 
-double_underscore : first_refused (bytes "a__b") ≡ At 0
+double_underscore : first_refused (bytes "a__b") ≡ Some 0
 unfolding class_of skip_from run_length all_digits singles mark_of lexeme_of scan_of over_text first_refused
 double_underscore = refl
 
-first_underscore : first_refused (bytes " _a") ≡ At 1
+first_underscore : first_refused (bytes " _a") ≡ Some 1
 unfolding class_of skip_from run_length all_digits singles mark_of lexeme_of scan_of over_text first_refused
 first_underscore = refl
 
-integer-and-unit : first_refused (bytes "3ns") ≡ At 0
+integer-and-unit : first_refused (bytes "3ns") ≡ Some 0
 unfolding class_of skip_from run_length all_digits singles mark_of lexeme_of scan_of over_text first_refused
 integer-and-unit = refl
 
-thirty_two : first_refused (bytes "a2345678901234567890123456789012") ≡ Nowhere
+thirty_two : first_refused (bytes "a2345678901234567890123456789012") ≡ None
 unfolding class_of skip_from run_length all_digits singles mark_of lexeme_of scan_of over_text first_refused
 thirty_two = refl
 
-thirty_three : first_refused (bytes "a23456789012345678901234567890123") ≡ At 0
+thirty_three : first_refused (bytes "a23456789012345678901234567890123") ≡ Some 0
 unfolding class_of skip_from run_length all_digits singles mark_of lexeme_of scan_of over_text first_refused
 thirty_three = refl
 
 -- COMMENTS
 
-to_the_end_of_text : first_refused (bytes "a --") ≡ Nowhere
+to_the_end_of_text : first_refused (bytes "a --") ≡ None
 unfolding class_of skip_from run_length all_digits singles mark_of lexeme_of scan_of over_text first_refused
 to_the_end_of_text = refl
 
@@ -108,24 +107,24 @@ four-ends : tokens_of (bytes "a--b\nc--d" ++ 11 ∷ bytes "e--f" ++ 12 ∷ bytes
 unfolding class_of skip_from run_length all_digits singles mark_of lexeme_of scan_of over_text tokens_of subset others vocabulary row_from row_of token_at word_token same_list
 four-ends = refl
 
-any_low_byte : first_refused (bytes "--" ++ 0 ∷ 127 ∷ bytes "\"$_") ≡ Nowhere
+any_low_byte : first_refused (bytes "--" ++ 0 ∷ 127 ∷ bytes "\"$_") ≡ None
 unfolding class_of skip_from run_length all_digits singles mark_of lexeme_of scan_of over_text first_refused
 any_low_byte = refl
 
 -- BYTES OF 128 OR MORE
 
-high_in_comment : first_refused (bytes "a -- " ++ 128 ∷ []) ≡ At 5
+high_in_comment : first_refused (bytes "a -- " ++ 128 ∷ []) ≡ Some 5
 unfolding class_of skip_from run_length all_digits singles mark_of lexeme_of scan_of over_text first_refused
 high_in_comment = refl
 
-high_behind_a_word : first_refused (bytes "ab" ++ 128 ∷ []) ≡ At 2
+high_behind_a_word : first_refused (bytes "ab" ++ 128 ∷ []) ≡ Some 2
 unfolding class_of skip_from run_length all_digits singles mark_of lexeme_of scan_of over_text first_refused
 high_behind_a_word = refl
 
-high_behind_no_word : first_refused (bytes "a_" ++ 128 ∷ []) ≡ At 0
+high_behind_no_word : first_refused (bytes "a_" ++ 128 ∷ []) ≡ Some 0
 unfolding class_of skip_from run_length all_digits singles mark_of lexeme_of scan_of over_text first_refused
 high_behind_no_word = refl
 
-first_of_two : first_refused (bytes "a_ " ++ 255 ∷ []) ≡ At 0
+first_of_two : first_refused (bytes "a_ " ++ 255 ∷ []) ≡ Some 0
 unfolding class_of skip_from run_length all_digits singles mark_of lexeme_of scan_of over_text first_refused
 first_of_two = refl

@@ -2,10 +2,11 @@
 ghost use Rattle.std.specs.Prelude.{◌≡◌, false};
 ghost use Rattle.lexis.specs.Blank.{dashes_of, step_of, skip_from};
 
-use crate::byte::{Class, byte_at, class_of};
+use crate::NoToken;
+use crate::byte::{Class, class_of};
 
 // What a byte does while blanks and comments are skipped.
-#[derive(Clone, Copy)]
+#[derive(Clone, Copy, Debug, PartialEq, Eq, Hash)]
 pub enum Step {
     // It is passed; the bool says whether the next byte is in a comment.
     Pass(bool),
@@ -17,11 +18,7 @@ pub enum Step {
 pub fn dashes(text: &[u8]) -> bool
     ensures { result ≡ dashes_of text.now }
 {
-    if byte_at(text, 0) == b'-' {
-        byte_at(text, 1) == b'-'
-    } else {
-        false
-    }
+    matches!(text, [b'-', b'-', ..])
 }
 
 // inside says that a comment has begun; dashes, that two dashes stand here.
@@ -43,33 +40,25 @@ pub fn step_of(inside: bool, class: Class, dashes: bool) -> Step
     }
 }
 
-// Where blanks and comments end, or a byte in a comment that is refused.
-#[derive(Clone, Copy)]
-pub enum Skipped {
-    To(usize),
-    Refused(usize),
-}
-
-pub fn skip(text: &[u8]) -> Skipped
+// Where blanks and comments end; or a byte in a comment is refused.
+pub fn skip(text: &[u8]) -> Result<usize, NoToken>
     ensures { result ≡ skip_from false 0 text.now }
 {
-    let mut i = 0;
     let mut inside = false;
-    while i < text.len() {
-        let class = class_of(text[i]);
+    for (i, byte) in text.iter().enumerate() {
+        let class = class_of(*byte);
         let begins = dashes(&text[i..]);
         match step_of(inside, class, begins) {
             Step::Pass(comment) => {
                 inside = comment;
-                i += 1;
             }
             Step::Stop => {
-                return Skipped::To(i);
+                return Ok(i);
             }
             Step::Refuse => {
-                return Skipped::Refused(i);
+                return Err(NoToken { place: i });
             }
         }
     }
-    Skipped::To(i)
+    Ok(text.len())
 }

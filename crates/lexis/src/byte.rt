@@ -2,7 +2,7 @@
 ghost use Rattle.std.specs.Prelude.{◌≡◌, get_or};
 ghost use Rattle.lexis.specs.Byte.{class_of};
 
-#[derive(Clone, Copy)]
+#[derive(Clone, Copy, Debug, PartialEq, Eq, Hash)]
 pub enum Class {
     Letter,
     Digit,
@@ -24,9 +24,9 @@ pub fn class_of(byte: u8) -> Class
     match byte {
         b'A'..=b'Z' | b'a'..=b'z' => Class::Letter,
         b'0'..=b'9' => Class::Digit,
-        b'_'..=b'_' => Class::Underscore,
+        b'_' => Class::Underscore,
         10..=13 => Class::LineEnd,
-        9..=9 | 32..=32 => Class::Space,
+        b'\t' | b' ' => Class::Space,
         b'('..=b')' | b','..=b'-' | b':'..=b'=' => Class::Mark,
         128..=255 => Class::High,
         _ => Class::Other,
@@ -34,8 +34,9 @@ pub fn class_of(byte: u8) -> Class
 }
 
 // The byte at i, or 0 past the end.
+// Kept: no Option, since docs/PROMISES.md promises the byte or 0, and 0 is of no mark and no word.
 pub fn byte_at(text: &[u8], i: usize) -> u8
     ensures { result ≡ get_or text.now i 0 }
 {
-    if i < text.len() { text[i] } else { 0 }
+    text.get(i).copied().unwrap_or(0)
 }

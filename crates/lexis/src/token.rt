@@ -1,12 +1,13 @@
 // The next token of a text, and the first place of a text that the lexical rules refuse.
-ghost use Rattle.std.specs.Prelude.{◌≡◌};
-ghost use Rattle.lexis.specs.Token.{mark_of, run_token, lexeme_of, placed_at, scan_of, first_refused};
+ghost use Rattle.std.specs.Prelude.{◌≡◌, ◌<◌, length};
+ghost use Rattle.lexis.specs.Token.{mark_of, run_token, start_of, lexeme_of, placed_at, scan_of, Within, first_refused};
 
-use crate::blank::{Skipped, skip};
+use crate::NoToken;
+use crate::blank::skip;
 use crate::byte::{Class, byte_at, class_of};
-use crate::run::{Shape, run_length, shape_of};
+use crate::run::{run_length, shape_of};
 
-#[derive(Clone, Copy)]
+#[derive(Clone, Copy, Debug, PartialEq, Eq, Hash)]
 pub enum Kind {
     Word,
     Integer,
@@ -19,132 +20,118 @@ pub enum Kind {
     Becomes,
 }
 
-// What stands at the start of a text that no blank and no comment starts: a token with its length.
-#[derive(Clone, Copy)]
-pub enum Lexeme {
-    Token(Kind, usize),
-    Nothing,
-    Refused,
+// A token that stands at the start of a text, with its length.
+#[derive(Clone, Copy, Debug, PartialEq, Eq, Hash)]
+pub struct Lexeme {
+    pub kind: Kind,
+    pub length: usize,
+}
+
+// A token of a text, with its place and length.
+#[derive(Clone, Copy, Debug, PartialEq, Eq, Hash)]
+pub struct Token {
+    pub kind: Kind,
+    pub start: usize,
+    pub length: usize,
 }
 
 // The mark that the byte first begins, with second after it.
-pub fn mark_of(first: u8, second: u8) -> Lexeme
+#[tactic(auto, unfolding(crate::specs::Token::mark_of))]
+pub fn mark_of(first: u8, second: u8) -> Option<Lexeme>
     ensures { result ≡ mark_of first second }
 {
-    match first {
-        b'(' => Lexeme::Token(Kind::Open, 1),
-        b')' => Lexeme::Token(Kind::Close, 1),
-        b',' => Lexeme::Token(Kind::Comma, 1),
-        b';' => Lexeme::Token(Kind::Semicolon, 1),
-        b':' => {
-            if second == b'=' {
-                Lexeme::Token(Kind::Becomes, 2)
-            } else {
-                Lexeme::Token(Kind::Colon, 1)
-            }
-        }
-        b'<' => {
-            if second == b'=' {
-                Lexeme::Token(Kind::Arrow, 2)
-            } else {
-                Lexeme::Refused
-            }
-        }
-        _ => Lexeme::Refused,
-    }
+    let (kind, length) = match (first, second) {
+        (b'(', _) => (Kind::Open, 1),
+        (b')', _) => (Kind::Close, 1),
+        (b',', _) => (Kind::Comma, 1),
+        (b';', _) => (Kind::Semicolon, 1),
+        (b':', b'=') => (Kind::Becomes, 2),
+        (b':', _) => (Kind::Colon, 1),
+        (b'<', b'=') => (Kind::Arrow, 2),
+        _ => return None,
+    };
+    Some(Lexeme { kind, length })
 }
 
 // The token of a run of so many bytes.
-pub fn run_token(shape: Shape, length: usize) -> Lexeme
+pub fn run_token(shape: Option<Kind>, length: usize) -> Option<Lexeme>
     ensures { result ≡ run_token shape length }
 {
-    match shape {
-        Shape::Word => Lexeme::Token(Kind::Word, length),
-        Shape::Integer => Lexeme::Token(Kind::Integer, length),
-        Shape::Broken => Lexeme::Refused,
-    }
+    let kind = shape?;
+    Some(Lexeme { kind, length })
 }
 
-pub fn lexeme_of(text: &[u8]) -> Lexeme
-    ensures { result ≡ lexeme_of text.now }
+// The token at the start of a text, if the lexical rules have it.
+fn start_of(text: &[u8]) -> Option<Lexeme>
+    requires { 0 < length text.now }
+    ensures { result ≡ start_of text.now }
 {
-    if text.len() == 0 {
-        return Lexeme::Nothing;
-    }
     match class_of(text[0]) {
         Class::Letter | Class::Digit | Class::Underscore => {
             let n = run_length(text);
             run_token(shape_of(&text[..n]), n)
         }
         Class::Mark => mark_of(text[0], byte_at(text, 1)),
-        _ => Lexeme::Refused,
+        _ => None,
     }
 }
 
-// What a scan finds: a token with its place and length, the end of the text, or a refused byte or token.
-#[derive(Clone, Copy)]
-pub enum Scan {
-    Token {
-        kind: Kind,
-        start: usize,
-        length: usize,
-    },
-    End,
-    Refused(usize),
+// What stands at the start of a text that no blank and no comment starts: a token, or nothing where the text is empty.
+pub fn lexeme_of(text: &[u8]) -> Result<Option<Lexeme>, NoToken>
+    ensures { result ≡ lexeme_of text.now }
+{
+    if text.is_empty() {
+        return Ok(None);
+    }
+    match start_of(text) {
+        Some(found) => Ok(Some(found)),
+        None => Err(NoToken { place: 0 }),
+    }
 }
 
-pub fn placed(start: usize, lexeme: Lexeme) -> Scan
+// The same, of a text that starts at a place.
+pub fn placed(
+    start: usize,
+    lexeme: Result<Option<Lexeme>, NoToken>,
+) -> Result<Option<Token>, NoToken>
     ensures { result ≡ placed_at start lexeme }
 {
     match lexeme {
-        Lexeme::Token(kind, length) => Scan::Token {
+        Ok(Some(Lexeme { kind, length })) => Ok(Some(Token {
             kind,
             start,
             length,
-        },
-        Lexeme::Nothing => Scan::End,
-        Lexeme::Refused => Scan::Refused(start),
+        })),
+        Ok(None) => Ok(None),
+        Err(_) => Err(NoToken { place: start }),
     }
 }
 
-// The first token of a text.
-pub fn next(text: &[u8]) -> Scan
-    ensures { result ≡ scan_of text.now }
+// The first token of a text, if it has any.
+pub fn next(text: &[u8]) -> Result<Option<Token>, NoToken>
+    ensures scanned { result ≡ scan_of text.now }
+    ensures within { Within (length text.now) result }
 {
-    match skip(text) {
-        Skipped::To(n) => placed(n, lexeme_of(&text[n..])),
-        Skipped::Refused(n) => Scan::Refused(n),
-    }
+    let start = skip(text)?;
+    placed(start, lexeme_of(&text[start..]))
 }
 
-// Where refusal 2 is due, if anywhere.
-#[derive(Clone, Copy)]
-pub enum Refusal {
-    At(usize),
-    Nowhere,
-}
-
-// The first place of the text that the lexical rules refuse. Each scan is handed the text from the byte after the last token on.
-pub fn first_refused(text: &[u8]) -> Refusal
+// The first place of the text that the lexical rules refuse, if any. Each scan is handed the text from the byte after the last token on.
+pub fn first_refused(text: &[u8]) -> Option<usize>
     ensures { result ≡ first_refused text.now }
 {
     let mut n = 0;
-    while n < text.len() {
+    loop {
         match next(&text[n..]) {
-            Scan::Token {
-                kind: _,
-                start,
-                length,
-            } => {
-                n = n + start + length;
+            Ok(Some(token)) => {
+                n = n + token.start + token.length;
             }
-            Scan::End => {
-                return Refusal::Nowhere;
+            Ok(None) => {
+                return None;
             }
-            Scan::Refused(p) => {
-                return Refusal::At(n + p);
+            Err(refused) => {
+                return Some(n + refused.place);
             }
         }
     }
-    Refusal::Nowhere
 }

@@ -2,7 +2,6 @@
 // the length of its text, LF, the text, and LF.
 #![tactic(auto)]
 
-mod say;
 mod scan;
 mod word;
 
@@ -10,15 +9,15 @@ ghost use Rattle.std.specs.Prelude.{◌≤◌, ◌<◌, IfOk, length};
 
 use program::read_full;
 use std::io;
-use words::integer::{Amount, amount_of};
+use words::integer::amount_of;
 
 // How long the text of the first case is.
 fn text_length(input: &[u8]) -> usize
     requires { 7 ≤ length input.now }
 {
     match amount_of(&input[1..5]) {
-        Amount::Small(n) => n as usize,
-        Amount::Large => 0,
+        Some(n) => n as usize,
+        None => 0,
     }
 }
 
@@ -31,7 +30,7 @@ fn run(rt: &impl Print, what: u8, text: &[u8]) -> io::Result<()> {
         b'u' => word::delay(rt, text)?,
         _ => word::same(rt, text)?,
     }
-    say::bytes(rt, b"\n")
+    println!(rt)
 }
 
 // Runs the first case of the input and answers how many bytes it takes: all of them where the case is cut.
@@ -54,6 +53,7 @@ fn run_first(rt: &impl Print, input: &[u8]) -> io::Result<usize>
 
 fn run_all(rt: &impl Print, input: &[u8]) -> io::Result<()> {
     let mut i = 0;
+    // Kept: no `for`, since each case says itself where the next one starts.
     while i < input.len() {
         i += run_first(rt, &input[i..])?;
     }

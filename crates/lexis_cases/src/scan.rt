@@ -1,77 +1,58 @@
 // The tokens of a text, each with its place, length and kind; and the end, or the first place that is refused.
-use crate::say;
-use lexis::token::{Kind, Refusal, Scan, first_refused, next};
+use lexis::token::{Kind, first_refused, next};
 use std::io;
-use words::integer::{Amount, amount_of};
+use words::integer::amount_of;
 use words::vocabulary::row_of;
+
+// A name has the number after the last row's.
+fn word(rt: &impl Print, run: &[u8]) -> io::Result<()> {
+    let number = row_of(run).unwrap_or(108);
+    print!(rt; "word {number}")
+}
 
 fn integer(rt: &impl Print, run: &[u8]) -> io::Result<()> {
     match amount_of(run) {
-        Amount::Small(n) => {
-            say::bytes(rt, b"integer ")?;
-            say::number(rt, n)
-        }
-        Amount::Large => say::bytes(rt, b"integer large"),
+        Some(n) => print!(rt; "integer {n}"),
+        None => print!(rt; "integer large"),
     }
-}
-
-fn word(rt: &impl Print, run: &[u8]) -> io::Result<()> {
-    say::bytes(rt, b"word ")?;
-    say::place(rt, row_of(run))
 }
 
 fn kind_of(rt: &impl Print, kind: Kind, run: &[u8]) -> io::Result<()> {
     match kind {
         Kind::Word => word(rt, run),
         Kind::Integer => integer(rt, run),
-        Kind::Open => say::bytes(rt, b"open"),
-        Kind::Close => say::bytes(rt, b"close"),
-        Kind::Comma => say::bytes(rt, b"comma"),
-        Kind::Colon => say::bytes(rt, b"colon"),
-        Kind::Semicolon => say::bytes(rt, b"semicolon"),
-        Kind::Arrow => say::bytes(rt, b"arrow"),
-        Kind::Becomes => say::bytes(rt, b"becomes"),
+        Kind::Open => print!(rt; "open"),
+        Kind::Close => print!(rt; "close"),
+        Kind::Comma => print!(rt; "comma"),
+        Kind::Colon => print!(rt; "colon"),
+        Kind::Semicolon => print!(rt; "semicolon"),
+        Kind::Arrow => print!(rt; "arrow"),
+        Kind::Becomes => print!(rt; "becomes"),
     }
 }
 
 fn token(rt: &impl Print, kind: Kind, start: usize, run: &[u8]) -> io::Result<()> {
-    say::place(rt, start)?;
-    say::bytes(rt, b"+")?;
-    say::place(rt, run.len())?;
-    say::bytes(rt, b" ")?;
+    let length = run.len();
+    print!(rt; "{start}+{length} ")?;
     kind_of(rt, kind, run)?;
-    say::bytes(rt, b"; ")
+    print!(rt; "; ")
 }
 
 // The tokens before the first place that is refused.
 pub fn tokens(rt: &impl Print, text: &[u8]) -> io::Result<()> {
     let mut n = 0;
-    while n < text.len() {
-        match next(&text[n..]) {
-            Scan::Token {
-                kind,
-                start,
-                length,
-            } => {
-                let from = n + start;
-                let to = from + length;
-                token(rt, kind, from, &text[from..to])?;
-                n = to;
-            }
-            _ => {
-                return Ok(());
-            }
-        }
+    while let Ok(Some(found)) = next(&text[n..]) {
+        let from = n + found.start;
+        let to = from + found.length;
+        token(rt, found.kind, from, &text[from..to])?;
+        n = to;
     }
     Ok(())
 }
 
 pub fn verdict(rt: &impl Print, text: &[u8]) -> io::Result<()> {
     match first_refused(text) {
-        Refusal::At(place) => {
-            say::bytes(rt, b"refused ")?;
-            say::place(rt, place)
-        }
-        Refusal::Nowhere => say::bytes(rt, b"end"),
+        Some(place) => print!(rt; "refused {place}"),
+        None => print!(rt; "end"),
     }
 }

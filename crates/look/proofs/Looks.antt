@@ -12,11 +12,10 @@ use Rattle.laws.proofs.Picks.{pick_both}
 use Rattle.words.specs.Token.{Token, name, integer, foreign, fixed, OPEN, CLOSE, COMMA, COLON, SEMICOLON, ARROW, BECOMES}
 use Rattle.words.specs.Integer.{value_of}
 use Rattle.words.specs.Vocabulary.{Row, lower, subset, others, vocabulary, row_from, row_of, token_at, word_token}
-use Rattle.lexis.specs.Token.{Placed, scan_of, token_of}
+use Rattle.std.specs.Prelude.{Option, Some, None, Ok, Err, unwrap_or}
+use Rattle.lexis.specs.Token.{Placed, Scan, scan_of, token_of}
 use Rattle.lexis.specs.declared.token.Kind.{Kind}
 use Rattle.lexis.specs.declared.token.Kind.TheVariants.{Word, Integer, Open, Close, Comma, Colon, Semicolon, Arrow, Becomes}
-use Rattle.lexis.specs.declared.token.Scan.{Scan}
-use Rattle.lexis.specs.declared.token.Scan.TheVariants.{Token as scanned, End, Refused}
 use Rattle.lexis.proofs.Bounds.{rest-within}
 use Rattle.lexis.proofs.Scans.{tokens_at, tokens-token, tokens_end, made-refused}
 use Rattle.look.specs.declared.Look.{Look}
@@ -24,31 +23,46 @@ use Rattle.look.specs.Inside.Looks.{part, kind_of, look_from, look_of, token_of_
 
 -- THE TOKEN OF A NUMBER is the scan's
 
-row_within : (k : ℕ) (word : List ℕ) (rows : List Row) → row_from k word rows ≤ k + length rows
+-- a row of so many
+abbrev Below : ℕ → Option ℕ → Type 0
+Below n (Some row) = row < n
+Below n None = Unit {0}
+
+row_within : (k : ℕ) (word : List ℕ) (rows : List Row) → Below (k + length rows) (row_from k word rows)
 unfolding row_from
-row_within k word [] = omega arith
+row_within k word [] = tt
 row_within k word (r ∷ rows) =
-    let h = row_within (k + 1) word rows in
-    pick_both (λ (n : ℕ). n ≤ k + length (r ∷ rows)) (same_list word (bytes r.spelling)) k (row_from (k + 1) word rows)
-    (λ e. omega arith) (λ e. omega arith)
+    let z : k + 1 + length rows ≡ k + length (r ∷ rows) = omega arith in
+    let h = subst (λ (n : ℕ). Below n (row_from (k + 1) word rows)) z (row_within (k + 1) word rows) in
+    pick_both (Below (k + length (r ∷ rows))) (same_list word (bytes r.spelling)) (Some k) (row_from (k + 1) word rows) (λ e. omega arith) (λ e. h)
 
-row_most : (run : List ℕ) → row_of run ≤ 108
+row_below : (run : List ℕ) → Below 108 (row_of run)
 unfolding row_of subset others vocabulary
-row_most run = row_within 0 (lower run) vocabulary
+row_below run = row_within 0 (lower run) vocabulary
 
--- up to the end of xs, the default may as well stand behind it
-get_d_behind : {A : Type 0} (xs : List A) (n : ℕ) (d e : A) (ys : List A) → n ≤ length xs → get_or xs n d ≡ get_or (xs ++ d ∷ ys) n e
-get_d_behind [] zero d e ys h = refl
-get_d_behind [] (suc n) d e ys h = absurd (omega arith)
-get_d_behind (x ∷ xs) zero d e ys h = refl
-get_d_behind (x ∷ xs) (suc n) d e ys h = get_d_behind xs n d e ys (omega arith)
+number_most : (row : Option ℕ) → Below 108 row → unwrap_or row 108 ≤ 108
+number_most (Some row) h = omega arith
+number_most None h = omega arith
 
-word-token : (run : List ℕ) → word_token run ≡ token_of_kind run (row_of run)
-unfolding subset others vocabulary token_at word_token token_of_kind
-word-token run =
-    get_d_behind (map (λ r. r.token) vocabulary) (row_of run) (name (lower run)) foreign
-    (integer (value_of run) ∷ fixed OPEN ∷ fixed CLOSE ∷ fixed COMMA ∷ fixed COLON ∷ fixed SEMICOLON ∷ fixed ARROW ∷ fixed BECOMES ∷ [])
-    (row_most run)
+row_most : (run : List ℕ) → unwrap_or (row_of run) 108 ≤ 108
+row_most run = number_most (row_of run) (row_below run)
+
+-- within xs, more may as well stand behind it
+get_inside : {A : Type 0} (xs : List A) (n : ℕ) (d e : A) (ys : List A) → n < length xs → get_or xs n d ≡ get_or (xs ++ ys) n e
+get_inside [] n d e ys h = absurd (omega arith)
+get_inside (x ∷ xs) zero d e ys h = refl
+get_inside (x ∷ xs) (suc n) d e ys h = get_inside xs n d e ys (omega arith)
+
+row-token : (run : List ℕ) (row : Option ℕ) → Below 108 row → token_at row (lower run) ≡ token_of_kind run (unwrap_or row 108)
+unfolding subset others vocabulary token_at token_of_kind
+row-token run (Some row) h =
+    get_inside (map (λ r. r.token) vocabulary) row (name (lower run)) foreign
+    (name (lower run) ∷ integer (value_of run) ∷ fixed OPEN ∷ fixed CLOSE ∷ fixed COMMA ∷ fixed COLON ∷ fixed SEMICOLON ∷ fixed ARROW ∷ fixed BECOMES ∷ []) h
+row-token run None h = refl
+
+word-token : (run : List ℕ) → word_token run ≡ token_of_kind run (unwrap_or (row_of run) 108)
+unfolding word_token
+word-token run = row-token run (row_of run) (row_below run)
 
 kind-token : (k : Kind) (run : List ℕ) → token_of k run ≡ token_of_kind run (kind_of k run)
 unfolding token_of_kind
@@ -101,8 +115,11 @@ part_length : (i l : ℕ) → i + l - i ≡ l
 part_length i l = omega arith
 
 by_scan : (s : List ℕ) (at : ℕ) → at ≤ length s → (r : Scan) → scan_of (drop at s) ≡ r → View s at (look_from s at r)
-by_scan s at h (scanned k i l) e =
-    let w = rest-within s at (scanned k i l) e in
+by_scan s at h (Ok (Some found)) e =
+    let k = found.kind in
+    let i = found.start in
+    let l = found.length in
+    let w = rest-within s at (Ok (Some found)) e in
     let run : List ℕ = part s (at + i) (at + i + l) in
     let same : take l (drop i (drop at s)) ≡ run = rw (part_length (at + i) l, drop-drop) in
     there record {
@@ -113,9 +130,9 @@ by_scan s at h (scanned k i l) e =
       tokens = tokens-token s at k i l e
           ∙ ap (λ (t : Token). record { token = t; start = at + i } ∷ tokens_at (at + i + l) (drop (at + i + l) s)) (ap (token_of k) same ∙ kind-token k run);
     }
-by_scan s at h End e = gone record { kind = refl; start = refl; end = refl; tokens = tokens_end s at e }
-by_scan s at h (Refused p) e =
-    gone record { kind = refl; start = refl; end = refl; tokens = made-refused (λ token rest. token ∷ rest) [] (λ place. []) at (drop at s) p e }
+by_scan s at h (Ok None) e = gone record { kind = refl; start = refl; end = refl; tokens = tokens_end s at e }
+by_scan s at h (Err none) e =
+    gone record { kind = refl; start = refl; end = refl; tokens = made-refused (λ token rest. token ∷ rest) [] (λ place. []) at (drop at s) none.place e }
 
 pub seen : {s : List ℕ} {at : ℕ} {l : Look} → at ≤ length s → l ≡ look_of s at → View s at l
 unfolding look_of

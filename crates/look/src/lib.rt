@@ -2,9 +2,9 @@
 #![tactic(auto)]
 
 ghost use Rattle.std.specs.Prelude.{◌≡◌, ◌<◌, ◌≤◌, length};
-ghost use Rattle.look.specs.Inside.Looks.{kind_of, look_of, unit_of};
+ghost use Rattle.look.specs.Inside.Looks.{kind_of, finish, look_of, unit_of};
 
-use lexis::token::{Kind, Scan, next};
+use lexis::token::{Kind, next};
 use words::unit::TimeUnit;
 use words::vocabulary::row_of;
 
@@ -95,7 +95,7 @@ fn kind_of(kind: Kind, run: &[u8]) -> usize
     ensures { result ≡ kind_of kind run.now }
 {
     match kind {
-        Kind::Word => row_of(run),
+        Kind::Word => row_of(run).unwrap_or(Look::NAME),
         Kind::Integer => Look::INTEGER,
         Kind::Open => Look::OPEN,
         Kind::Close => Look::CLOSE,
@@ -107,36 +107,35 @@ fn kind_of(kind: Kind, run: &[u8]) -> usize
     }
 }
 
+// The end of the text.
+fn finish(text: &[u8]) -> Look
+    ensures { result ≡ finish text.now }
+{
+    Look {
+        kind: Look::FINISH,
+        start: text.len(),
+        end: text.len(),
+    }
+}
+
 // The token from place at on. A byte or token that the lexical rules refuse counts as the end: they are tried on the whole text before.
 pub fn peek(text: &[u8], at: usize) -> Look
     requires { at ≤ length text.now }
     ensures { result ≡ look_of text.now at }
 {
     match next(&text[at..]) {
-        Scan::Token {
-            kind,
-            start,
-            length,
-        } => {
-            let from = at + start;
-            let to = from + length;
-            let number = kind_of(kind, &text[from..to]);
+        Ok(Some(token)) => {
+            let from = at + token.start;
+            let to = from + token.length;
+            let number = kind_of(token.kind, &text[from..to]);
             Look {
                 kind: number,
                 start: from,
                 end: to,
             }
         }
-        Scan::End => Look {
-            kind: Look::FINISH,
-            start: text.len(),
-            end: text.len(),
-        },
-        Scan::Refused(_) => Look {
-            kind: Look::FINISH,
-            start: text.len(),
-            end: text.len(),
-        },
+        Ok(None) => finish(text),
+        Err(_) => finish(text),
     }
 }
 

@@ -2,3 +2,4 @@
 pub mod Steps
 pub mod Units
 pub mod Relays
+pub mod Works

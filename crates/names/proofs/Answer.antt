@@ -10,8 +10,7 @@ use lib.Dec.{ltb}
 use lib.ListN.{length, get_or, length-map}
 use borrow.Author.Tests.{ltb-true, ltb-false, lt-ltb, le-ltb}
 use Rattle.laws.specs.Pick.{pick}
-use Rattle.lexis.specs.declared.token.Refusal.{Refusal}
-use Rattle.lexis.specs.declared.token.Refusal.TheVariants.{At, Nowhere}
+use Rattle.std.specs.Prelude.{Option, Some, None}
 use Rattle.lexis.specs.Token.{tokens_of, first_refused}
 use Rattle.syntax.specs.Tree.{Design, design_text}
 use Rattle.syntax.specs.Sentence.{Verdict, accepted, refused3, refused4, Right}
@@ -36,9 +35,9 @@ after_reading text (accepted d) = after_judging d (judged_design d (starts text)
 after_reading text (refused3 k) = refuses 3 (place_of text k)
 after_reading text (refused4 k) = refuses 4 (place_of text k)
 
-abbrev after_scanning : List ℕ → Refusal → Answer
-after_scanning text (At p) = refuses 2 p
-after_scanning text Nowhere = after_reading text (read (tokens text))
+abbrev after_scanning : List ℕ → Option ℕ → Answer
+after_scanning text (Some p) = refuses 2 p
+after_scanning text None = after_reading text (read (tokens text))
 
 unfoldable pub answer_to : List ℕ → Answer
 answer_to text =
@@ -80,9 +79,9 @@ module _ (text : List ℕ) where
   reading s (refused3 k) r = no_sentence k s r
   reading s (refused4 k) r = too_deep k s r
 
-  scanning : length text ≤ most_bytes → (r : Refusal) → first_refused text ≡ r → Gets text (after_scanning text r)
-  scanning h (At p) e = not_lexical h e
-  scanning h Nowhere e = reading (record { short = h; lexical = e }) (read (tokens text)) (read_right (tokens text))
+  scanning : length text ≤ most_bytes → (r : Option ℕ) → first_refused text ≡ r → Gets text (after_scanning text r)
+  scanning h (Some p) e = not_lexical h e
+  scanning h None e = reading (record { short = h; lexical = e }) (read (tokens text)) (read_right (tokens text))
 
   measuring : (b : Bool) → ltb most_bytes (length text) ≡ b → Gets text (pick b (refuses 1 0) (after_scanning text (first_refused text)))
   measuring true e = too_long (ltb-true most_bytes (length text) e)

@@ -7,24 +7,21 @@ use mathlib.Core.Bool.{Bool}
 use mathlib.Core.Logic.{inl, inr}
 use mathlib.Core.List.{List, [], ◌∷◌, map}
 use lib.ListN.{length, get_or, drop, length-drop}
-use Rattle.lexis.specs.Token.{Placed, scan_of, on_scan, over_text, first_refused, tokens_of, placed_token}
-use Rattle.lexis.specs.declared.token.Scan.{Scan}
-use Rattle.lexis.specs.declared.token.Scan.TheVariants.{Token as scanned, End, Refused as scan_refused}
-use Rattle.lexis.specs.declared.token.Refusal.{Refusal}
-use Rattle.lexis.specs.declared.token.Refusal.TheVariants.{At, Nowhere}
-use Rattle.lexis.proofs.Bounds.{Within, scan_within}
+use Rattle.std.specs.Prelude.{Option, Some, None, Ok, Err}
+use Rattle.lexis.specs.Token.{Placed, Scan, Within, scan_of, on_scan, over_text, first_refused, tokens_of, placed_token}
+use Rattle.lexis.proofs.Bounds.{scan_within}
 use Rattle.names.specs.Roles.{Role, declares, labels, listens, reads, assigns, belongs, closes, opens, delays, counts, passes, design_roles}
 use Rattle.names.specs.Judge.{State, nothing_yet, next, faults, Holds, AppliesFrom}
 use Rattle.names.specs.Text.{most_bytes, refuses, place_of, Gets, too_long, not_lexical, no_sentence, too_deep, faulty}
 
 -- PLACES
 
-abbrev RefusedUpTo : ℕ → Refusal → Type 0
-RefusedUpTo n (At p) = p ≤ n
-RefusedUpTo n Nowhere = Unit {0}
+abbrev RefusedUpTo : ℕ → Option ℕ → Type 0
+RefusedUpTo n (Some p) = p ≤ n
+RefusedUpTo n None = Unit {0}
 
-abbrev refused_over : (scans i : ℕ) → List ℕ → Refusal
-refused_over = over_text (λ token rest. rest) Nowhere At
+abbrev refused_over : (scans i : ℕ) → List ℕ → Option ℕ
+refused_over = over_text (λ token rest. rest) None Some
 
 -- a text from place i up to place n
 refused_up_to : (scans i n : ℕ) (s : List ℕ) → i + length s ≤ n → RefusedUpTo n (refused_over scans i s)
@@ -34,10 +31,10 @@ refused_up_to (suc scans) i n s h = by_scan (refused_up_to scans) (scan_of s) (s
   where
     by_scan : ((j m : ℕ) (t : List ℕ) → j + length t ≤ m → RefusedUpTo m (refused_over scans j t))
         → (r : Scan) → Within (length s) r
-        → RefusedUpTo n (on_scan r (λ kind start size. refused_over scans (i + (start + size)) (drop (start + size) s)) Nowhere (λ place. At (i + place)))
-    by_scan again (scanned kind a l) w = again (i + (a + l)) n (drop (a + l) s) (rw length-drop (omega (arith, w.1)))
-    by_scan again End w = tt
-    by_scan again (scan_refused p) w = omega (arith, w)
+        → RefusedUpTo n (on_scan r (λ kind start size. refused_over scans (i + (start + size)) (drop (start + size) s)) None (λ place. Some (i + place)))
+    by_scan again (Ok (Some found)) w = again (i + (found.start + found.length)) n (drop (found.start + found.length) s) (rw length-drop (omega (arith, w.1)))
+    by_scan again (Ok None) w = tt
+    by_scan again (Err none) w = omega (arith, w)
 
 abbrev tokens_over : (scans i : ℕ) → List ℕ → List Placed
 tokens_over = over_text (λ token rest. token ∷ rest) [] (λ place. [])
@@ -53,12 +50,12 @@ starts_up_to (suc scans) i n k s h = by_scan (starts_up_to scans) (scan_of s) (s
     by_scan : ((j m q : ℕ) (t : List ℕ) → j + length t ≤ m → start_at (tokens_over scans j t) q m ≤ m)
         → (r : Scan) → Within (length s) r → (q : ℕ)
         → start_at (on_scan r (λ kind start size. placed_token i kind start size s ∷ tokens_over scans (i + (start + size)) (drop (start + size) s)) [] (λ place. [])) q n ≤ n
-    by_scan again (scanned kind a l) w zero = omega (arith, w.1)
-    by_scan again (scanned kind a l) w (suc q) = again (i + (a + l)) n q (drop (a + l) s) (rw length-drop (omega (arith, w.1)))
-    by_scan again End w q = omega arith
-    by_scan again (scan_refused p) w q = omega arith
+    by_scan again (Ok (Some found)) w zero = omega (arith, w.1)
+    by_scan again (Ok (Some found)) w (suc q) = again (i + (found.start + found.length)) n q (drop (found.start + found.length) s) (rw length-drop (omega (arith, w.1)))
+    by_scan again (Ok None) w q = omega arith
+    by_scan again (Err none) w q = omega arith
 
-first_within : (text : List ℕ) (p : ℕ) → first_refused text ≡ At p → p ≤ length text
+first_within : (text : List ℕ) (p : ℕ) → first_refused text ≡ Some p → p ≤ length text
 unfolding first_refused
 first_within text p e = subst (RefusedUpTo (length text)) e (refused_up_to (length text + 1) 0 (length text) text (omega arith))
 

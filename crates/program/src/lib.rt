@@ -4,22 +4,15 @@
 ghost use Rattle.std.specs.Prelude.{◌≡◌, ◌≤◌, IfOk, OnErr, length};
 ghost use Rattle.program.specs.Given.{InTime};
 
+use refusal::{Reason, Refusal};
 use std::env::{Env, FillError};
 use std::io;
 use std::io::Read;
-use stop::{Stop, stop_of};
+use stop::stop_of;
 
-// The line of a refusal, with its place for 2 to 10.
-pub fn say_refused(rt: &impl Print, number: u64, place: usize) -> io::Result<()> {
-    rt.write_all(b"refused ")?;
-    rt.print(number)?;
-    if 2 <= number {
-        if number <= 10 {
-            rt.write_all(b" ")?;
-            rt.print(place)?;
-        }
-    }
-    rt.write_all(b"\n")
+// The line of a refusal, with its place where it has one.
+pub fn say_refused(rt: &impl Print, refusal: Refusal) -> io::Result<()> {
+    println!(rt; "{refusal}")
 }
 
 // Reads until the buffer is full or the input ends, and answers how many bytes it put at the buffer's start.
@@ -28,6 +21,7 @@ pub fn read_full<R: Read>(input: &mut R, buffer: &mut [u8]) -> io::Result<usize>
     ensures err { OnErr result (length buffer.new ≡ length buffer.old) }
 {
     let mut done = 0;
+    // Kept: no `for`, since each read says itself how far it came.
     while done < buffer.len() {
         let n = input.read(&mut buffer[done..])?;
         if n == 0 {
@@ -40,29 +34,23 @@ pub fn read_full<R: Read>(input: &mut R, buffer: &mut [u8]) -> io::Result<usize>
 
 // Whether the command has a word at a place; its own name is at 0.
 fn has_word(rt: &impl Env, place: usize) -> bool {
-    match rt.arg(place, &mut []) {
-        Err(FillError::NotPresent) => false,
-        _ => true,
-    }
+    !matches!(rt.arg(place, &mut []), Err(FillError::NotPresent))
 }
 
 // Puts a word of the command at the start of a buffer, and answers its length. A word that is longer than the buffer counts as empty.
 fn word(rt: &impl Env, place: usize, buffer: &mut [u8]) -> usize
     ensures { result ≤ length buffer.new }
 {
-    match rt.arg(place, buffer) {
-        Ok(n) => n,
-        Err(_) => 0,
-    }
+    rt.arg(place, buffer).unwrap_or(0)
 }
 
 // The stop that the two argument words say. Linux hands over no argument that is longer than the first buffer, and a word that is
 // longer than the second is no unit: it counts as empty.
-pub fn stop_words(rt: &impl Env) -> Stop
+pub fn stop_words(rt: &impl Env) -> Result<u64, Reason>
     ensures { InTime result }
 {
     if !has_word(rt, 2) || has_word(rt, 3) {
-        return Stop::Refused;
+        return Err(Reason::Stop);
     }
     let mut amount = [0u8; 131072];
     let mut unit = [0u8; 4];

@@ -1,13 +1,14 @@
 -- From the readers' answer to what the text gets.
 -- Assumes nothing.
-use Prim.Native.Nat.{ℕ, ◌≤◌}
+use Prim.Native.Nat.{ℕ, ◌≤◌, ◌<◌}
 use native.Mathlib.Omega.{arith}
 use mathlib.Core.Path.{◌≡◌, refl, sym, ap, ◌∙◌, subst}
 use mathlib.Core.Bool.{Bool, true, false}
 use mathlib.Core.List.{List, [], ◌∷◌}
 use lib.ListN.{length, get_or, length-map}
 use Rattle.laws.specs.Pick.{pick}
-use borrow.Author.Tests.{eq-eqb, ne_eqb, le-ltb}
+use lib.Dec.{eqb}
+use borrow.Author.Tests.{eq-eqb, ne_eqb, le-ltb, eqb-true, eqb-false}
 use Rattle.lexis.specs.Token.{tokens_of}
 use Rattle.syntax.specs.Tree.{Design}
 use Rattle.syntax.specs.Sentence.{Verdict, accepted, refused3, refused4}
@@ -24,11 +25,17 @@ use Rattle.names.proofs.Sizes.{faultless-judged}
 use Rattle.emission.specs.Inside.Draft.{design_draft, nothing}
 use Rattle.ledger.specs.Inside.Standing.{Keeps, keeps_fine}
 use Rattle.ledger.proofs.Keeping.{kept_fine, kept-refused}
-use Rattle.reading.specs.declared.Spot.{Spot}
-use Rattle.reader.specs.declared.design.Checked.{Checked}
-use Rattle.reader.specs.declared.design.Checked.TheVariants.{Accepted, Refused}
+use Rattle.std.specs.Prelude.{Result, Ok, Err}
+use Rattle.refusal.specs.declared.Reason.{Reason}
+use Rattle.refusal.specs.declared.Refusal.{Refusal}
+use Rattle.refusal.specs.declared.Reason.TheVariants.{Sentence, Nesting}
+use Rattle.refusal.specs.Numbers.{number_of}
+use Rattle.refusal.proofs.Numbers.{numbered}
+use Rattle.names.proofs.Places.{refused-number}
+use Rattle.reading.specs.declared.Unfit.{Unfit}
+use Rattle.reading.specs.declared.Unfit.TheVariants.{NoSentence, TooDeep}
 use Rattle.reader.specs.Answers.{Answers}
-use Rattle.reading.specs.Inside.Spots.{placed_verdict, machine, verdict, judgement, drafted}
+use Rattle.reading.specs.Inside.Spots.{Reached, reached, refusal_of, placed_verdict, machine, verdict, judgement, drafted}
 use Rattle.reader.specs.Inside.Designs.{design_of, beginning, Designed, Surveyed, accepted_as, refused_as}
 
 onward-fine : (j : Judgement) → onward j (λ y. fine y) ≡ j
@@ -79,7 +86,7 @@ module _ (s : List ℕ) (scanned : Scanned s) where
   unfolding verdict machine read tokens_of
   from_start = refl
 
-  module _ {q : Spot} {l l' v v' : List ℕ} (d : Designed s q l l' v v') where
+  module _ {q : Reached} {l l' v v' : List ℕ} (d : Designed s q l l' v v') where
     refuses_3 : (v : Verdict Design) (p : ℕ) → read (tokens s) ≡ v → placed_verdict (length s) (starts s) v ≡ refused3 p → answer_to s ≡ refuses 3 p
     unfolding answer_to
     refuses_3 (accepted x) p r h = let z : ◌≡◌ {A = ℕ} 0 1 = ap tag_of h in absurd (omega arith)
@@ -92,13 +99,13 @@ module _ (s : List ℕ) (scanned : Scanned s) where
     refuses_4 (refused3 k) p r h = let z : ◌≡◌ {A = ℕ} 1 2 = ap tag_of h in absurd (omega arith)
     refuses_4 (refused4 k) p r h = let e : place_of s k ≡ p = cc in rw (le-ltb most_bytes (length s) scanned.short, scanned.lexical, r, e)
 
-    pub answer-deep : q.number ≡ 4 → Surveyed s (Refused 4 q.at) l'
+    pub answer-deep : q.number ≡ 4 → Surveyed s (Err (record { reason = Nesting; place = q.at })) l'
     unfolding verdict
     answer-deep k =
         let h : placed_verdict (length s) (starts s) (read (tokens s)) ≡ refused4 q.at = sym from_start ∙ d.moves ∙ rw k in
         refused_as (subst (Gets s) (refuses_4 (read (tokens s)) q.at refl h) (gets s))
 
-    pub answer-stuck : (q.number ≡ 4 → ⊥) → (q.number ≡ 0 → ⊥) → Surveyed s (Refused 3 q.at) l'
+    pub answer-stuck : (q.number ≡ 4 → ⊥) → (q.number ≡ 0 → ⊥) → Surveyed s (Err (record { reason = Sentence; place = q.at })) l'
     unfolding verdict
     answer-stuck k g =
         let h : placed_verdict (length s) (starts s) (read (tokens s)) ≡ refused3 q.at = sym from_start ∙ d.moves ∙ rw (ne_eqb q.number 0 g, ne_eqb q.number 4 k) in
@@ -125,8 +132,19 @@ module _ (s : List ℕ) (scanned : Scanned s) where
         pub keeps_all : Keeps 0 s l' (judged_design tree (starts s))
         keeps_all = subst (Keeps 0 s l') judged_all ((d.judges f).keeps (fine nothing_yet) k)
 
-        pub answer-judged : (get_or l' 0 0 ≡ 0 → ⊥) → Surveyed s (Refused (get_or l' 0 0) (get_or l' 1 0)) l'
-        answer-judged g = refused_as (subst (Gets s) (refused-answer (kept-refused keeps_all g)) (gets s))
+        pub refused-judged : (get_or l' 0 0 ≡ 0 → ⊥) → Gets s (refuses (get_or l' 0 0) (get_or l' 1 0))
+        refused-judged g = subst (Gets s) (refused-answer (kept-refused keeps_all g)) (gets s)
+
+        pub answer-judged : (reason : Reason) → number_of reason ≡ get_or l' 0 0 → Surveyed s (Err (record { reason = reason; place = get_or l' 1 0 })) l'
+        answer-judged reason e = refused_as (rw e (refused-judged (λ z. let n = numbered reason in omega arith)))
+
+        -- where the ledger's word is no reason's number, it is 0
+        pub none-judged : (1 ≤ get_or l' 0 0 → 16 < get_or l' 0 0) → get_or l' 0 0 ≡ 0
+        none-judged h = go (eqb (get_or l' 0 0) 0) refl
+          where
+            go : (b : Bool) → eqb (get_or l' 0 0) 0 ≡ b → get_or l' 0 0 ≡ 0
+            go true e = eqb-true _ _ e
+            go false e = let n = refused-number s (refused-judged (eqb-false _ _ e)) in absurd (omega arith)
 
         accepts-tree : get_or l' 0 0 ≡ 0 → answer_to s ≡ accepts tree
         unfolding answer_to
@@ -141,7 +159,7 @@ module _ (s : List ℕ) (scanned : Scanned s) where
         pub words-written : (g : get_or l' 0 0 ≡ 0) → design_draft tree (nothing v) ≡ drafted (kept_fine keeps_all g).0.state v' q.next
         words-written g = let j = kept_fine keeps_all g in (d.judges f).writes nothing_yet j.0.state k (judged_all ∙ j.1)
 
-        pub answer-accepted : get_or l' 0 0 ≡ 0 → Surveyed s Accepted l'
+        pub answer-accepted : get_or l' 0 0 ≡ 0 → Surveyed s (Ok tt) l'
         answer-accepted g =
             let got = gets-tree g in
             let j = kept_fine keeps_all g in
@@ -152,9 +170,15 @@ module _ (s : List ℕ) (scanned : Scanned s) where
               keeps = keeps_fine j.0.stands;
               names = ap (λ (y : State). y.signal_names) (judged-state (design_roles tree) nothing_yet (starts s) j.0.state (places_enough s tree got) j.1) ∙ all_names s tree got;
               named = d.named;
+              begun = d.begun f;
             }
 
+  -- what could not be read
+  pub answer-refused : {l l' v v' : List ℕ} (e : Unfit) → Designed s (reached (Err e)) l l' v v' → Surveyed s (Err (refusal_of e)) l'
+  answer-refused (NoSentence place) d = answer-stuck d (λ z. omega (arith, z)) (λ z. omega (arith, z))
+  answer-refused (TooDeep place) d = answer-deep d refl
+
 -- what the public answer says
-pub answers_of : {s : List ℕ} {r : Checked} {l : List ℕ} → Surveyed s r l → Answers s r
+pub answers_of : {s : List ℕ} {r : Result (Unit {0}) Refusal} {l : List ℕ} → Surveyed s r l → Answers s r
 answers_of (accepted_as x) = (x.tree, x.gets)
 answers_of (refused_as g) = g

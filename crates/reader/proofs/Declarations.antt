@@ -23,8 +23,7 @@ use Rattle.names.specs.Judge.{State, fine}
 use Rattle.emission.specs.Inside.Draft.{Draft, begun, with_name, with_initial, declaration_draft, declarations_draft}
 use Rattle.ledger.specs.Inside.Standing.{Keeps, keeps_fine, Judges}
 use Rattle.ledger.proofs.Keeping.{signals-count}
-use Rattle.reading.specs.declared.Spot.{Spot}
-use Rattle.reading.specs.Inside.Spots.{drafted, Judged, past, unfit, word_of}
+use Rattle.reading.specs.Inside.Spots.{Reached, drafted, Judged, past, unfit, word_of}
 use Rattle.reading.specs.Inside.Reading.{whole, given, declares_roles, initial_roles, more_signals_roles, signals_roles, initial_draft, more_signals_draft, the_name, Named, Reads}
 use Rattle.reading.proofs.Moves.{some_moves, stuck-moves, same_moves}
 use Rattle.reading.proofs.Judging.{draft_of, then_judged, redrafted, token-judged, passes-judged}
@@ -36,7 +35,7 @@ pub counted-signals : {s l : List ℕ} {y : State} → Keeps 0 s l (fine y) → 
 counted-signals (keeps_fine x) = sym (signals-count x)
 
 -- what the words keep of the state after a part
-pub kept-after : {u u' : ℕ} {s : List ℕ} {p q : Spot} {l l' v v' : List ℕ} {f : List Role → List Role} {d : Draft → Draft} (a : Judged u u' s p q l l' v v' f d)
+pub kept-after : {u u' : ℕ} {s : List ℕ} {p q : Reached} {l l' v v' : List ℕ} {f : List Role → List Role} {d : Draft → Draft} (a : Judged u u' s p q l l' v v' f d)
     {y y' : State} → Keeps u s l (fine y) → a.after (fine y) ≡ fine y' → Keeps u' s l' (fine y')
 kept-after {u' = u'} {s} {l' = l'} a {y} k e = subst (Keeps u' s l') e (a.keeps (fine y) k)
 
@@ -50,7 +49,7 @@ begun-drafted kind k upto lo hi y v w n e g = go (eqb kind 22) refl
     go true b = let z = eqb-true kind 22 b in rw (z, g, z, e)
     go false b = let z : kind ≡ 23 = omega (arith, eqb-false kind 22 b) in rw (z, g, z)
 
-module _ {s : List ℕ} {p : Spot} {t : Look} (h : p.at ≤ length s) (f : p.number ≡ 0) (e : t ≡ look_of s p.at) where
+module _ {s : List ℕ} {p : Reached} {t : Look} (h : p.at ≤ length s) (f : p.number ≡ 0) (e : t ≡ look_of s p.at) where
   -- NAMES
 
   -- a name in a role
@@ -101,7 +100,7 @@ module _ {s : List ℕ} {p : Spot} {t : Look} (h : p.at ≤ length s) (f : p.num
   -- [`:=` literal] `;`, for the signals from number from on
 
   module _ (from : ℕ) where
-    pub initial-none : {q : Spot} {l v : List ℕ} → (t.kind ≡ 116 → ⊥) → q ≡ word_of s p 114 → Reads (whole initial_value initial_roles (initial_draft from)) s 32 p q l l v v
+    pub initial-none : {q : Reached} {l v : List ℕ} → (t.kind ≡ 116 → ⊥) → q ≡ word_of s p 114 → Reads (whole initial_value initial_roles (initial_draft from)) s 32 p q l l v v
     unfolding with_initial
     initial-none {q} k e2 =
         let w = worded SEMICOLON h e2 in
@@ -138,7 +137,7 @@ module _ {s : List ℕ} {p : Spot} {t : Look} (h : p.at ≤ length s) (f : p.num
       pub initial-high : (n : ℕ) {l l' v v' : List ℕ} → 23 < i.kind → Reads (whole initial_value initial_roles (initial_draft from)) s 32 p (unfit i n) l l' v v'
       initial-high n g = no_literal n (λ small. rw (within-above 22 23 i.kind g))
 
-      pub initial-given : (upto : ℕ) {q : Spot} {l v v' : List ℕ} → 22 ≤ i.kind → i.kind ≤ 23 → q ≡ word_of s (past i p.next) 114 → upto ≡ get_or l 2 0
+      pub initial-given : (upto : ℕ) {q : Reached} {l v v' : List ℕ} → 22 ≤ i.kind → i.kind ≤ 23 → q ≡ word_of s (past i p.next) 114 → upto ≡ get_or l 2 0
           → v' ≡ begun v from upto i.kind → Reads (whole initial_value initial_roles (initial_draft from)) s 32 p q l l v v'
       initial-given upto {q} {l} {v} {v'} lo hi e3 counted e4 =
           let x = seen-there h e (λ z. omega arith) in
@@ -161,7 +160,7 @@ module _ {s : List ℕ} {p : Spot} {t : Look} (h : p.at ≤ length s) (f : p.num
   -- {`,` name} `:` `boolean` [`:=` literal] `;`
 
   module _ (from : ℕ) where
-    pub more_typed : {a b q : Spot} {l v v' : List ℕ} → (t.kind ≡ 112 → ⊥) → a ≡ word_of s p 113 → b ≡ word_of s a 7
+    pub more_typed : {a b q : Reached} {l v v' : List ℕ} → (t.kind ≡ 112 → ⊥) → a ≡ word_of s p 113 → b ≡ word_of s a 7
         → Reads (whole initial_value initial_roles (initial_draft from)) s 32 b q l l v v' → Reads (whole more_signals more_signals_roles (more_signals_draft from)) s 32 p q l l v v'
     more_typed {a} {b} k e1 e2 d =
         let w1 = worded COLON h e1 in
@@ -180,7 +179,7 @@ module _ {s : List ℕ} {p : Spot} {t : Look} (h : p.at ≤ length s) (f : p.num
               then_judged (w1.judges (w2.fine fb)) (then_judged (w2.judges fb) (d.judges z));
         }
 
-    pub more_comma : {q r : Spot} {l l1 l2 v v1 v2 : List ℕ} → t.kind ≡ 112 → Reads (whole a_name declares_roles with_name) s 32 (past t p.next) q l l1 v v1
+    pub more_comma : {q r : Reached} {l l1 l2 v v1 v2 : List ℕ} → t.kind ≡ 112 → Reads (whole a_name declares_roles with_name) s 32 (past t p.next) q l l1 v v1
         → Reads (whole more_signals more_signals_roles (more_signals_draft from)) s 32 q r l1 l2 v1 v2 → Reads (whole more_signals more_signals_roles (more_signals_draft from)) s 32 p r l l2 v v2
     more_comma k d o =
         let x = seen-there h e (λ z. omega arith) in
@@ -196,7 +195,7 @@ module _ {s : List ℕ} {p : Spot} {t : Look} (h : p.at ≤ length s) (f : p.num
 
   -- {signal} `begin`
 
-  pub signals_end : {q : Spot} {l v : List ℕ} → (t.kind ≡ 5 → ⊥) → q ≡ word_of s p 6 → Reads (whole signals signals_roles declarations_draft) s 32 p q l l v v
+  pub signals_end : {q : Reached} {l v : List ℕ} → (t.kind ≡ 5 → ⊥) → q ≡ word_of s p 6 → Reads (whole signals signals_roles declarations_draft) s 32 p q l l v v
   signals_end k e1 =
       let w = worded BEGIN h e1 in
       record {
@@ -209,7 +208,7 @@ module _ {s : List ℕ} {p : Spot} {t : Look} (h : p.at ≤ length s) (f : p.num
         judges = λ z. w.judges z;
       }
 
-  pub signals_more : (from : ℕ) {a q r : Spot} {l l1 l2 l3 v v1 v2 v3 : List ℕ} → t.kind ≡ 5 → from ≡ get_or l 2 0
+  pub signals_more : (from : ℕ) {a q r : Reached} {l l1 l2 l3 v v1 v2 v3 : List ℕ} → t.kind ≡ 5 → from ≡ get_or l 2 0
       → Reads (whole a_name declares_roles with_name) s 32 (past t p.next) a l l1 v v1 → Reads (whole more_signals more_signals_roles (more_signals_draft from)) s 32 a q l1 l2 v1 v2
       → Reads (whole signals signals_roles declarations_draft) s 32 q r l2 l3 v2 v3 → Reads (whole signals signals_roles declarations_draft) s 32 p r l l3 v v3
   signals_more from {q = q} {v = v} k counted d o i =

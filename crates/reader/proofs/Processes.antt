@@ -19,10 +19,9 @@ use Rattle.look.proofs.Looks.{seen, seen-there}
 use Rattle.look.proofs.Numbers.{fixed_kind, misfit, name-seen, fixed-seen}
 use Rattle.names.specs.Judge.{State, fine, number_of}
 use Rattle.emission.specs.Inside.Draft.{Draft, waking, ended, with_listener, with_end, processes_draft}
-use Rattle.ledger.specs.Inside.Standing.{Keeps, keeps_fine, Judges, Numbers, name_option}
+use Rattle.ledger.specs.Inside.Standing.{Keeps, keeps_fine, Judges, Numbers}
 use Rattle.ledger.proofs.Keeping.{unlabelled}
-use Rattle.reading.specs.declared.Spot.{Spot}
-use Rattle.reading.specs.Inside.Spots.{verdict, drafted, past, unfit, word_of, Stops}
+use Rattle.reading.specs.Inside.Spots.{Reached, verdict, drafted, past, unfit, word_of, Stops}
 use Rattle.reading.specs.Inside.Reading.{whole, a_list, a_process, some_statements, listens_roles, more_listed_roles, beginning_roles, closing_name_roles, body_roles, processes_end_roles, closing_part_roles, silent, more_listed_draft, body_draft, Opens, Ready, Reads}
 use Rattle.reading.proofs.Moves.{some_moves, same_moves}
 use Rattle.reading.proofs.Judging.{none-judged, then_judged, redrafted, token-judged, passes-judged}
@@ -48,7 +47,7 @@ end_drafted : (y : State) (v : List ℕ) (i : ℕ) {j : ℕ} {w : List ℕ} → 
 unfolding with_end
 end_drafted y v i g o = rw (o, g)
 
-module _ {s : List ℕ} {p : Spot} {t : Look} (h : p.at ≤ length s) (f : p.number ≡ 0) (e : t ≡ look_of s p.at) where
+module _ {s : List ℕ} {p : Reached} {t : Look} (h : p.at ≤ length s) (f : p.number ≡ 0) (e : t ≡ look_of s p.at) where
   -- a name in a list
 
   pub listened_read : {k : ℕ} {l l' v v' : List ℕ} → t.kind ≡ 108 → Judges 0 0 s (listens (name_at s t.start t.end)) t.start l l'
@@ -69,7 +68,7 @@ module _ {s : List ℕ} {p : Spot} {t : Look} (h : p.at ≤ length s) (f : p.num
 
   -- {`,` name} `)`
 
-  pub listed_end : {q : Spot} {l v : List ℕ} → (t.kind ≡ 112 → ⊥) → q ≡ word_of s p 111 → Reads (whole more_listed more_listed_roles more_listed_draft) s 32 p q l l v v
+  pub listed_end : {q : Reached} {l v : List ℕ} → (t.kind ≡ 112 → ⊥) → q ≡ word_of s p 111 → Reads (whole more_listed more_listed_roles more_listed_draft) s 32 p q l l v v
   listed_end k e1 =
       let w = worded CLOSE h e1 in
       record {
@@ -82,7 +81,7 @@ module _ {s : List ℕ} {p : Spot} {t : Look} (h : p.at ≤ length s) (f : p.num
         judges = λ z. w.judges z;
       }
 
-  pub listed_comma : {q r : Spot} {l l1 l2 v v1 v2 : List ℕ} → t.kind ≡ 112 → Reads (whole a_name listens_roles with_listener) s 32 (past t p.next) q l l1 v v1
+  pub listed_comma : {q r : Reached} {l l1 l2 v v1 v2 : List ℕ} → t.kind ≡ 112 → Reads (whole a_name listens_roles with_listener) s 32 (past t p.next) q l l1 v v1
       → Reads (whole more_listed more_listed_roles more_listed_draft) s 32 q r l1 l2 v1 v2 → Reads (whole more_listed more_listed_roles more_listed_draft) s 32 p r l l2 v v2
   listed_comma k d o =
       let x = seen-there h e (λ z. omega arith) in
@@ -110,7 +109,7 @@ module _ {s : List ℕ} {p : Spot} {t : Look} (h : p.at ≤ length s) (f : p.num
         judges = λ z. none-judged;
       }
 
-  pub list_some : {q r : Spot} {l l1 l2 v v1 v2 : List ℕ} → t.kind ≡ 110 → Reads (whole a_name listens_roles with_listener) s 32 (past t p.next) q l l1 v v1
+  pub list_some : {q r : Reached} {l l1 l2 v v1 v2 : List ℕ} → t.kind ≡ 110 → Reads (whole a_name listens_roles with_listener) s 32 (past t p.next) q l l1 v v1
       → Reads (whole more_listed more_listed_roles more_listed_draft) s 32 q r l1 l2 v1 v2 → Reads a_list s 32 p r l l2 v v2
   list_some k d o =
       let x = seen-there h e (λ z. omega arith) in
@@ -128,7 +127,7 @@ module _ {s : List ℕ} {p : Spot} {t : Look} (h : p.at ≤ length s) (f : p.num
 
   -- [`is`] `begin`
 
-  pub beginning-plain : {q : Spot} {l v : List ℕ} → (t.kind ≡ 1 → ⊥) → q ≡ word_of s p 6 → Reads (whole beginning beginning_roles silent) s 32 p q l l v v
+  pub beginning-plain : {q : Reached} {l v : List ℕ} → (t.kind ≡ 1 → ⊥) → q ≡ word_of s p 6 → Reads (whole beginning beginning_roles silent) s 32 p q l l v v
   beginning-plain k e1 =
       let w = worded BEGIN h e1 in
       record {
@@ -141,7 +140,7 @@ module _ {s : List ℕ} {p : Spot} {t : Look} (h : p.at ≤ length s) (f : p.num
         judges = λ z. w.judges z;
       }
 
-  pub beginning_is : {q : Spot} {l v : List ℕ} → t.kind ≡ 1 → q ≡ word_of s (past t p.next) 6 → Reads (whole beginning beginning_roles silent) s 32 p q l l v v
+  pub beginning_is : {q : Reached} {l v : List ℕ} → t.kind ≡ 1 → q ≡ word_of s (past t p.next) 6 → Reads (whole beginning beginning_roles silent) s 32 p q l l v v
   beginning_is k e1 =
       let x = seen-there h e (λ z. omega arith) in
       let w = worded BEGIN x.inside e1 in
@@ -157,7 +156,7 @@ module _ {s : List ℕ} {p : Spot} {t : Look} (h : p.at ≤ length s) (f : p.num
 
   -- [name] `;`
 
-  pub closing-none : {q : Spot} {l v : List ℕ} {o : Option Name} → (t.kind ≡ 108 → ⊥) → q ≡ word_of s p 114 → Reads (whole closing_name (closing_name_roles o) silent) s 32 p q l l v v
+  pub closing-none : {q : Reached} {l v : List ℕ} {o : Option Name} → (t.kind ≡ 108 → ⊥) → q ≡ word_of s p 114 → Reads (whole closing_name (closing_name_roles o) silent) s 32 p q l l v v
   closing-none k e1 =
       let w = worded SEMICOLON h e1 in
       record {
@@ -170,7 +169,7 @@ module _ {s : List ℕ} {p : Spot} {t : Look} (h : p.at ≤ length s) (f : p.num
         judges = λ z. w.judges z;
       }
 
-  pub closing_some : {q : Spot} {l l' v : List ℕ} {o : Option Name} → t.kind ≡ 108 → Judges 0 0 s (closes o (name_at s t.start t.end)) t.start l l'
+  pub closing_some : {q : Reached} {l l' v : List ℕ} {o : Option Name} → t.kind ≡ 108 → Judges 0 0 s (closes o (name_at s t.start t.end)) t.start l l'
       → q ≡ word_of s (past t p.next) 114 → Reads (whole closing_name (closing_name_roles o) silent) s 32 p q l l' v v
   closing_some {o = o} k j e1 =
       let x = seen-there h e (λ z. omega arith) in
@@ -187,7 +186,7 @@ module _ {s : List ℕ} {p : Spot} {t : Look} (h : p.at ≤ length s) (f : p.num
 
   -- [`entity` or `architecture`] [name] `;`
 
-  pub part-plain : (u : Part) {q : Spot} {l l' v v' : List ℕ} {o : Option Name} → (t.kind ≡ fixed_kind (part_word u) → ⊥)
+  pub part-plain : (u : Part) {q : Reached} {l l' v v' : List ℕ} {o : Option Name} → (t.kind ≡ fixed_kind (part_word u) → ⊥)
       → Reads (whole closing_name (closing_name_roles o) silent) s 32 p q l l' v v' → Reads (whole (closing u) (closing_part_roles o) silent) s 32 p q l l' v v'
   part-plain u k d =
       record {
@@ -201,7 +200,7 @@ module _ {s : List ℕ} {p : Spot} {t : Look} (h : p.at ≤ length s) (f : p.num
         judges = d.judges;
       }
 
-  pub part-word : (u : Part) {q : Spot} {l l' v v' : List ℕ} {o : Option Name} → t.kind ≡ fixed_kind (part_word u) → (t.kind ≡ 117 → ⊥)
+  pub part-word : (u : Part) {q : Reached} {l l' v v' : List ℕ} {o : Option Name} → t.kind ≡ fixed_kind (part_word u) → (t.kind ≡ 117 → ⊥)
       → Reads (whole closing_name (closing_name_roles o) silent) s 32 (past t p.next) q l l' v v' → Reads (whole (closing u) (closing_part_roles o) silent) s 32 p q l l' v v'
   part-word u k g d =
       let x = seen-there h e g in
@@ -217,7 +216,7 @@ module _ {s : List ℕ} {p : Spot} {t : Look} (h : p.at ≤ length s) (f : p.num
 
 -- WHAT FOLLOWS THE WORD `process`
 
-pub body-read : {s : List ℕ} {p a b c d e q : Spot} {l l1 l2 l3 v v1 v2 v3 : List ℕ} {o : Option Name} → Reads a_list s 32 p a l l1 v v1
+pub body-read : {s : List ℕ} {p a b c d e q : Reached} {l l1 l2 l3 v v1 v2 v3 : List ℕ} {o : Option Name} → Reads a_list s 32 p a l l1 v v1
     → Reads (whole beginning beginning_roles silent) s 32 a b l1 l1 v1 v1 → Reads some_statements s 32 b c l1 l2 v1 v2 → Stops s c → v3 ≡ ended v2 (get_or l2 4 0) c.next
     → d ≡ word_of s c 2 → e ≡ word_of s d 8 → Reads (whole closing_name (closing_name_roles o) silent) s 32 e q l2 l3 v3 v3
     → Reads (whole process_body (body_roles o) body_draft) s 32 p q l l3 v v3
@@ -247,42 +246,39 @@ body-read {s} {p} {a} {b} {c} {d} {e} {q} {v2 = v2} r1 r2 r3 stops ends e1 e2 r4
 
 -- THE WORD `process`
 
-module _ {s : List ℕ} {p : Spot} {t : Look} (h : p.at ≤ length s) (f : p.number ≡ 0) (e : t ≡ look_of s p.at) where
+module _ {s : List ℕ} {p : Reached} {t : Look} (h : p.at ≤ length s) (f : p.number ≡ 0) (e : t ≡ look_of s p.at) where
   pub opens-read : {l l' v : List ℕ} → t.kind ≡ 8 → Judges 1 0 s opens t.start l l' → Opens s p (past t p.next) l l' v
   unfolding word_of
   opens-read k j =
       let x = seen-there h e (λ z. omega arith) in
       record { worded = rw (eq-eqb p.number 0 f, ← e, eq-eqb t.kind 8 k); judged = λ _. token-judged x opens j }
 
-  pub opens-unfit : {l l' v : List ℕ} → (t.kind ≡ 8 → ⊥) → Opens s p (unfit t p.next) l l' v
+  pub opens-unfit : {l l' v : List ℕ} → (t.kind ≡ 8 → ⊥) → Opens s p (unfit t 0) l l' v
   unfolding word_of
   opens-unfit k = record { worded = rw (eq-eqb p.number 0 f, ← e, ne_eqb t.kind 8 k); judged = λ z. absurd (omega (arith, z)) }
 
-pub opens-off : {s : List ℕ} {p : Spot} {l l' v : List ℕ} → (p.number ≡ 0 → ⊥) → Opens s p p l l' v
+pub opens-off : {s : List ℕ} {p : Reached} {l l' v : List ℕ} → (p.number ≡ 0 → ⊥) → Opens s p p l l' v
 unfolding word_of
 opens-off {p = p} f = record { worded = rw (ne_eqb p.number 0 f); judged = λ z. absurd (f z) }
 
-pub ready_open : {s : List ℕ} {p : Spot} {l : List ℕ} → Ready 0 s p l → Ready 1 s p l
+pub ready_open : {s : List ℕ} {p : Reached} {l : List ℕ} → Ready 0 s p l → Ready 1 s p l
 ready_open r = record { inside = r.inside; sound = λ f. let d = r.sound f in record { judgement = d.judgement; keeps = unlabelled d.keeps } }
 
-pub ready-opened : {s : List ℕ} {p q : Spot} {l l' v : List ℕ} → Ready 1 s p l → Opens s p q l l' v → Ready 0 s q l'
+pub ready-opened : {s : List ℕ} {p q : Reached} {l l' v : List ℕ} → Ready 1 s p l → Opens s p q l l' v → Ready 0 s q l'
 ready-opened r o =
     let w = worded PROCESS r.inside o.worded in
     record { inside = w.inside; sound = λ f. let d = r.sound (w.fine f) in record { judgement = _; keeps = (o.judged f).keeps d.judgement d.keeps } }
 
 -- A PROCESS
 
-module _ {s : List ℕ} {p : Spot} {t : Look} (h : p.at ≤ length s) (f : p.number ≡ 0) (e : t ≡ look_of s p.at) where
-  pub process-labelled : {a b q : Spot} {l l1 l2 l3 v v' : List ℕ} → t.kind ≡ 108 → Judges 0 1 s (labels (name_at s t.start t.end)) t.start l l1
-      → a ≡ word_of s (past t p.next) 113 → Opens s a b l1 l2 v → Reads (whole process_body (body_roles (name_option s t.start t.end)) body_draft) s 32 b q l2 l3 v v'
+module _ {s : List ℕ} {p : Reached} {t : Look} (h : p.at ≤ length s) (f : p.number ≡ 0) (e : t ≡ look_of s p.at) where
+  pub process-labelled : {a b q : Reached} {l l1 l2 l3 v v' : List ℕ} → t.kind ≡ 108 → Judges 0 1 s (labels (name_at s t.start t.end)) t.start l l1
+      → a ≡ word_of s (past t p.next) 113 → Opens s a b l1 l2 v → Reads (whole process_body (body_roles (some (name_at s t.start t.end))) body_draft) s 32 b q l2 l3 v v'
       → Reads a_process s 32 p q l l3 v v'
-  process-labelled {a} {b} {q} {l} {l1} {l2} {l3} {v} {v'} k j e1 o d0 =
+  process-labelled {a} {b} {q} {l} {l1} {l2} {l3} {v} {v'} k j e1 o d =
       let x = seen-there h e (λ z. omega arith) in
       let w1 = worded COLON x.inside e1 in
       let w2 = worded PROCESS w1.inside o.worded in
-      let given : name_option s t.start t.end ≡ some (name_at s t.start t.end) = rw (lt-ltb t.start t.end x.some) in
-      let d : Reads (whole process_body (body_roles (some (name_at s t.start t.end))) body_draft) s 32 b q l2 l3 v v'
-      = subst (λ (i : Option Name). Reads (whole process_body (body_roles i) body_draft) s 32 b q l2 l3 v v') given d0 in
       record {
         tree = labelled (some (name_at s t.start t.end)) d.tree;
         fine = λ _. f;
@@ -300,8 +296,8 @@ module _ {s : List ℕ} {p : Spot} {t : Look} (h : p.at ≤ length s) (f : p.num
             then_judged (token-judged x (labels (name_at s t.start t.end)) j) (then_judged (w1.judges fa) (then_judged (o.judged fb) (d.judges z)));
       }
 
-  pub process-plain : {b q : Spot} {l l1 l2 v v' : List ℕ} → (t.kind ≡ 108 → ⊥) → (t.kind ≡ 2 → ⊥) → Opens s p b l l1 v
-      → Reads (whole process_body (body_roles (name_option s 0 0)) body_draft) s 32 b q l1 l2 v v' → Reads a_process s 32 p q l l2 v v'
+  pub process-plain : {b q : Reached} {l l1 l2 v v' : List ℕ} → (t.kind ≡ 108 → ⊥) → (t.kind ≡ 2 → ⊥) → Opens s p b l l1 v
+      → Reads (whole process_body (body_roles none) body_draft) s 32 b q l1 l2 v v' → Reads a_process s 32 p q l l2 v v'
   process-plain k g o d =
       let w = worded PROCESS h o.worded in
       record {
@@ -331,7 +327,7 @@ module _ {s : List ℕ} {p : Spot} {t : Look} (h : p.at ≤ length s) (f : p.num
         judges = λ _. passes-judged x;
       }
 
-pub processes_more : {s : List ℕ} {p q r : Spot} {l l1 l2 v v1 v2 : List ℕ} → Reads a_process s 32 p q l l1 v v1
+pub processes_more : {s : List ℕ} {p q r : Reached} {l l1 l2 v v1 v2 : List ℕ} → Reads a_process s 32 p q l l1 v v1
     → Reads (whole processes processes_end_roles processes_draft) s 32 q r l1 l2 v1 v2 → Reads (whole processes processes_end_roles processes_draft) s 32 p r l l2 v v2
 processes_more a b =
     record {

@@ -16,11 +16,14 @@ use Rattle.emission.specs.Inside.Draft.{Draft, cleared, design_draft, nothing, c
 use Rattle.emission.proofs.Theorem.{drafted as table-drafted}
 use Rattle.ledger.specs.Inside.Standing.{Standing, Keeps}
 use Rattle.ledger.proofs.Keeping.{kept_fine, signals-count}
+use Rattle.reading.specs.Inside.Spots.{Reached, reached, drafted}
 use Rattle.reading.specs.declared.Spot.{Spot}
-use Rattle.reading.specs.Inside.Spots.{drafted}
+use Rattle.reading.specs.declared.Unfit.{Unfit}
+use Rattle.reading.proofs.Generic.{numbered}
+use Rattle.std.specs.Prelude.{Result, Ok, Err, IsOk}
 use Rattle.reader.specs.Tabled.{Translates}
 use Rattle.reader.specs.Inside.Designs.{Designed}
-use Rattle.reader.proofs.Answering.{answer-deep, answer-stuck, tree, keeps_all, answer-judged, gets-tree, words-written, answers_of}
+use Rattle.reader.proofs.Answering.{answer-deep, answer-stuck, tree, keeps_all, refused-judged, gets-tree, words-written, answers_of}
 use Rattle.reader.proofs.Demand2.{never_both}
 
 scanned_of : {s : List ℕ} {t : Design} → Gets s (accepts t) → Scanned s
@@ -30,7 +33,7 @@ scanned_of (faultless w f) = w.scanned
 counts-kept : {s l : List ℕ} {y : State} (v : List ℕ) (n : ℕ) → Standing 0 s l y → set (set (set v 0 (get_or l 2 0)) 1 (get_or l 4 0)) 2 n ≡ counted (drafted y v n)
 counts-kept v n x = rw (← signals-count x, x.processes_are)
 
-module _ {s : List ℕ} {t : Design} (got : Gets s (accepts t)) {q : Spot} {l l' v v' : List ℕ} (d : Designed s q l l' v v') (k : Keeps 0 s l (fine nothing_yet)) where
+module _ {s : List ℕ} {t : Design} (got : Gets s (accepts t)) {q : Reached} {l l' v v' : List ℕ} (d : Designed s q l l' v v') (k : Keeps 0 s l (fine nothing_yet)) where
   -- nothing is refused
   accepted_again : q.number ≡ 0
   accepted_again = go (eqb q.number 4) refl (eqb q.number 0) refl
@@ -45,7 +48,7 @@ module _ {s : List ℕ} {t : Design} (got : Gets s (accepts t)) {q : Spot} {l l'
     where
       go : (b : Bool) → eqb (get_or l' 0 0) 0 ≡ b → get_or l' 0 0 ≡ 0
       go true e = eqb-true _ _ e
-      go false e = absurd (never_both s got (answers_of (answer-judged s (scanned_of got) d accepted_again k (eqb-false _ _ e))))
+      go false e = absurd (never_both s got (refused-judged s (scanned_of got) d accepted_again k (eqb-false _ _ e)))
 
   same_tree : tree s (scanned_of got) d accepted_again ≡ t
   same_tree = let e = one_answer s _ _ (gets-tree s (scanned_of got) d accepted_again k faultless_again) got in cc
@@ -60,3 +63,8 @@ module _ {s : List ℕ} {t : Design} (got : Gets s (accepts t)) {q : Spot} {l l'
       → Translates s words after
   translated {words} long e g =
       record { long = long; tree = t; gets = got; words = g ∙ tabled ∙ ap (λ (w : List ℕ). counted (design_draft t (nothing w))) e ∙ table-drafted s words t got }
+
+-- the second run is not refused
+pub read_again : {s : List ℕ} {t : Design} → Gets s (accepts t) → {l l' v v' : List ℕ} (q : Result Spot Unfit) → Designed s (reached q) l l' v v' → Keeps 0 s l (fine nothing_yet) → IsOk q
+read_again got (Ok p) d k = refl
+read_again got (Err e) d k = absurd (numbered e (accepted_again got d k))

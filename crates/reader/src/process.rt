@@ -2,123 +2,89 @@
 ghost use Rattle.std.specs.Prelude.{◌≡◌, List, ℕ, ◌≤◌, length};
 ghost use Rattle.syntax.proofs.Rows.{a_name, more_listed, closing_name, process_body, processes, beginning as beginning_symbol};
 ghost use Rattle.look.specs.Inside.Looks.{look_of};
-ghost use Rattle.ledger.specs.Inside.Standing.{Span, name_option};
+ghost use Rattle.ledger.specs.Inside.Standing.{SpanIfAny, name_if_any};
 ghost use Rattle.emission.specs.Inside.Draft.{with_listener, processes_draft};
-ghost use Rattle.reading.specs.Inside.Spots.{Forward};
+ghost use Rattle.reading.specs.Inside.Spots.{at_spot, reached, Forward};
 ghost use Rattle.reading.specs.Inside.Reading.{Ready, Reads, Opens, whole, a_list, a_process, listens_roles, more_listed_roles, beginning_roles, closing_name_roles, body_roles, processes_end_roles, silent, more_listed_draft, body_draft};
 
 use emission::{end_process, wake};
 use ledger::{PROCESSES, close, label, listen, open_process};
 use look::{Look, peek};
-use reading::{Spot, word};
+use reading::{Spot, Unfit, token, word};
 use statements::statements;
 
 // A name in a sensitivity list.
-fn listened(text: &[u8], ledger: &mut [u64; 328], table: &mut [u64], p: Spot) -> Spot
-    requires { Ready 0 text.now p ledger.old }
-    ensures { Reads (whole a_name listens_roles with_listener) text.now 32 p result ledger.old ledger.new table.old table.new }
+fn listened(text: &[u8], ledger: &mut [u64; 328], table: &mut [u64], p: Spot) -> Result<Spot, Unfit>
+    requires { Ready 0 text.now (at_spot p) ledger.old }
+    ensures { Reads (whole a_name listens_roles with_listener) text.now 32 (at_spot p) (reached result) ledger.old ledger.new table.old table.new }
 {
-    if p.number != 0 {
-        return p;
-    }
-    let t = peek(text, p.at);
-    if t.kind != Look::NAME {
-        return Spot {
-            number: 3,
-            at: t.start,
-            next: p.next,
-        };
-    }
-    let k = listen(text, ledger, t.start, t.end);
+    let t = token(text, p.at, Look::NAME)?;
+    let k = listen(text, ledger, t);
     wake(table, k, ledger[PROCESSES]);
-    Spot {
-        number: 0,
-        at: t.end,
-        next: p.next,
-    }
+    Ok(p.past(t))
 }
 
 // {`,` name} `)`
-fn more_listed(text: &[u8], ledger: &mut [u64; 328], table: &mut [u64], first: Spot) -> Spot
-    requires { Ready 0 text.now first ledger.old }
-    ensures { Reads (whole more_listed more_listed_roles more_listed_draft) text.now 32 first result ledger.old ledger.new table.old table.new }
+fn more_listed(
+    text: &[u8],
+    ledger: &mut [u64; 328],
+    table: &mut [u64],
+    first: Spot,
+) -> Result<Spot, Unfit>
+    requires { Ready 0 text.now (at_spot first) ledger.old }
+    ensures { Reads (whole more_listed more_listed_roles more_listed_draft) text.now 32 (at_spot first) (reached result) ledger.old ledger.new table.old table.new }
 {
     let mut p = first;
-    while p.number == 0 {
+    loop {
         let t = peek(text, p.at);
         if t.kind != Look::COMMA {
             return word(text, p, Look::CLOSE);
         }
-        let here = Spot {
-            number: 0,
-            at: t.end,
-            next: p.next,
-        };
-        p = listened(text, ledger, table, here);
+        p = listened(text, ledger, table, p.past(t))?;
     }
-    p
 }
 
 // [`(` name {`,` name} `)`]
-fn list(text: &[u8], ledger: &mut [u64; 328], table: &mut [u64], p: Spot) -> Spot
-    requires { Ready 0 text.now p ledger.old }
-    ensures { Reads a_list text.now 32 p result ledger.old ledger.new table.old table.new }
+fn list(text: &[u8], ledger: &mut [u64; 328], table: &mut [u64], p: Spot) -> Result<Spot, Unfit>
+    requires { Ready 0 text.now (at_spot p) ledger.old }
+    ensures { Reads a_list text.now 32 (at_spot p) (reached result) ledger.old ledger.new table.old table.new }
 {
-    if p.number != 0 {
-        return p;
-    }
     let t = peek(text, p.at);
     if t.kind != Look::OPEN {
-        return p;
+        return Ok(p);
     }
-    let here = Spot {
-        number: 0,
-        at: t.end,
-        next: p.next,
-    };
-    let a = listened(text, ledger, table, here);
+    let a = listened(text, ledger, table, p.past(t))?;
     more_listed(text, ledger, table, a)
 }
 
 // [`is`] `begin`
-fn beginning(text: &[u8], p: Spot) -> Spot
+fn beginning(text: &[u8], p: Spot) -> Result<Spot, Unfit>
     requires { p.at ≤ length text.now }
-    ensures { (l v : List ℕ) → Reads (whole beginning_symbol beginning_roles silent) text.now 32 p result l l v v }
+    ensures { (l v : List ℕ) → Reads (whole beginning_symbol beginning_roles silent) text.now 32 (at_spot p) (reached result) l l v v }
 {
-    if p.number != 0 {
-        return p;
-    }
     let t = peek(text, p.at);
     if t.kind != Look::IS {
         return word(text, p, Look::BEGIN);
     }
-    let here = Spot {
-        number: 0,
-        at: t.end,
-        next: p.next,
-    };
-    word(text, here, Look::BEGIN)
+    word(text, p.past(t), Look::BEGIN)
 }
 
-// [name] `;`: the name of what is closed goes from one place to another, which are the same where there is none.
-pub fn closing_name(text: &[u8], ledger: &mut [u64; 328], p: Spot, from: usize, to: usize) -> Spot
-    requires { Ready 0 text.now p ledger.old × Span text.now from to }
-    ensures { (v : List ℕ) → Reads (whole closing_name (closing_name_roles (name_option text.now from to)) silent) text.now 32 p result ledger.old ledger.new v v }
+// [name] `;`, and the name of what is closed, where that has one.
+pub fn closing_name(
+    text: &[u8],
+    ledger: &mut [u64; 328],
+    p: Spot,
+    own: Option<Look>,
+) -> Result<Spot, Unfit>
+    requires { Ready 0 text.now (at_spot p) ledger.old × SpanIfAny text.now own }
+    ensures { (v : List ℕ) → Reads (whole closing_name (closing_name_roles (name_if_any text.now own)) silent) text.now 32 (at_spot p) (reached result) ledger.old ledger.new v v }
 {
-    if p.number != 0 {
-        return p;
-    }
     let t = peek(text, p.at);
     if t.kind != Look::NAME {
         return word(text, p, Look::SEMICOLON);
     }
-    close(text, ledger, from, to, t.start, t.end);
-    let here = Spot {
-        number: 0,
-        at: t.end,
-        next: p.next,
-    };
-    word(text, here, Look::SEMICOLON)
+    close(text, ledger, own, t);
+    word(text, p.past(t), Look::SEMICOLON)
 }
 
 // What follows the word `process`.
@@ -127,82 +93,68 @@ fn body(
     ledger: &mut [u64; 328],
     table: &mut [u64],
     p: Spot,
-    from: usize,
-    to: usize,
-) -> Spot
-    requires { Ready 0 text.now p ledger.old × Span text.now from to }
-    ensures { Reads (whole process_body (body_roles (name_option text.now from to)) body_draft) text.now 32 p result ledger.old ledger.new table.old table.new }
+    own: Option<Look>,
+) -> Result<Spot, Unfit>
+    requires { Ready 0 text.now (at_spot p) ledger.old × SpanIfAny text.now own }
+    ensures { Reads (whole process_body (body_roles (name_if_any text.now own)) body_draft) text.now 32 (at_spot p) (reached result) ledger.old ledger.new table.old table.new }
 {
-    let a = list(text, ledger, table, p);
-    let b = beginning(text, a);
-    let c = statements(text, ledger, table, b, 32);
+    let a = list(text, ledger, table, p)?;
+    let b = beginning(text, a)?;
+    let c = statements(text, ledger, table, b, 32)?;
     end_process(table, ledger[PROCESSES], c.next);
-    let d = word(text, c, Look::END);
-    let e = word(text, d, Look::PROCESS);
-    closing_name(text, ledger, e, from, to)
+    let d = word(text, c, Look::END)?;
+    let e = word(text, d, Look::PROCESS)?;
+    closing_name(text, ledger, e, own)
 }
 
 // The word `process` that opens one.
-fn opening(text: &[u8], ledger: &mut [u64; 328], p: Spot) -> Spot
-    requires { Ready 1 text.now p ledger.old }
-    ensures { (v : List ℕ) → Opens text.now p result ledger.old ledger.new v }
+fn opening(text: &[u8], ledger: &mut [u64; 328], p: Spot) -> Result<Spot, Unfit>
+    requires { Ready 1 text.now (at_spot p) ledger.old }
+    ensures { (v : List ℕ) → Opens text.now (at_spot p) (reached result) ledger.old ledger.new v }
 {
-    if p.number != 0 {
-        return p;
-    }
-    let t = peek(text, p.at);
-    if t.kind != Look::PROCESS {
-        return Spot {
-            number: 3,
-            at: t.start,
-            next: p.next,
-        };
-    }
+    let t = token(text, p.at, Look::PROCESS)?;
     open_process(ledger, t.start);
-    Spot {
-        number: 0,
-        at: t.end,
-        next: p.next,
-    }
+    Ok(p.past(t))
 }
 
 // [name `:`] `process` and what follows; the next token is not `end`.
-fn process(text: &[u8], ledger: &mut [u64; 328], table: &mut [u64], p: Spot, t: Look) -> Spot
-    requires ready { Ready 0 text.now p ledger.old }
-    requires number_value { (p.number ≡ 0) × (t ≡ look_of text.now p.at) × (t.kind ≡ 2 → ⊥) }
-    ensures { Reads a_process text.now 32 p result ledger.old ledger.new table.old table.new × Forward p result }
+fn process(
+    text: &[u8],
+    ledger: &mut [u64; 328],
+    table: &mut [u64],
+    p: Spot,
+    t: Look,
+) -> Result<Spot, Unfit>
+    requires ready { Ready 0 text.now (at_spot p) ledger.old }
+    requires first { (t ≡ look_of text.now p.at) × (t.kind ≡ 2 → ⊥) }
+    ensures { Reads a_process text.now 32 (at_spot p) (reached result) ledger.old ledger.new table.old table.new × Forward (at_spot p) (reached result) }
 {
     if t.kind == Look::NAME {
-        label(text, ledger, t.start, t.end);
-        let here = Spot {
-            number: 0,
-            at: t.end,
-            next: p.next,
-        };
-        let a = word(text, here, Look::COLON);
-        let b = opening(text, ledger, a);
-        return body(text, ledger, table, b, t.start, t.end);
+        label(text, ledger, t);
+        let a = word(text, p.past(t), Look::COLON)?;
+        let b = opening(text, ledger, a)?;
+        return body(text, ledger, table, b, Some(t));
     }
-    let b = opening(text, ledger, p);
-    body(text, ledger, table, b, 0, 0)
+    let b = opening(text, ledger, p)?;
+    body(text, ledger, table, b, None)
 }
 
 // {process} `end`
-pub fn process_list(text: &[u8], ledger: &mut [u64; 328], table: &mut [u64], first: Spot) -> Spot
-    requires { Ready 0 text.now first ledger.old }
-    ensures { Reads (whole processes processes_end_roles processes_draft) text.now 32 first result ledger.old ledger.new table.old table.new }
+pub fn process_list(
+    text: &[u8],
+    ledger: &mut [u64; 328],
+    table: &mut [u64],
+    first: Spot,
+) -> Result<Spot, Unfit>
+    requires { Ready 0 text.now (at_spot first) ledger.old }
+    ensures { Reads (whole processes processes_end_roles processes_draft) text.now 32 (at_spot first) (reached result) ledger.old ledger.new table.old table.new }
 {
     let mut p = first;
-    while p.number == 0 {
+    loop {
         let t = peek(text, p.at);
         if t.kind == Look::END {
-            return Spot {
-                number: 0,
-                at: t.end,
-                next: p.next,
-            };
+            return Ok(p.past(t));
         }
-        p = process(text, ledger, table, p, t);
+        p = process(text, ledger, table, p, t)?;
     }
-    p
 }

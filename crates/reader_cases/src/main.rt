@@ -5,51 +5,32 @@
 ghost use Rattle.std.specs.Prelude.{◌≡◌, ◌≤◌, ◌<◌, IfOk, OnErr, length};
 
 use program::read_full;
-use reader::{Tabled, read};
+use reader::read;
 use std::io;
 use std::io::Read;
-use words::integer::{Amount, amount_of};
+use words::integer::amount_of;
 
 // The value of digits, where it is below 100,000.
 fn number(digits: &[u8]) -> usize
     ensures { result < 100000 }
 {
     match amount_of(digits) {
-        Amount::Small(n) => { if n < 100_000 { n as usize } else { 0 } }
-        Amount::Large => 0,
+        Some(n) => { if n < 100_000 { n as usize } else { 0 } }
+        None => 0,
     }
-}
-
-fn say_number(rt: &impl Print, n: u64) -> io::Result<()> {
-    rt.write_all(b" ")?;
-    rt.print(n)
 }
 
 fn say_accepted(rt: &impl Print, table: &[u64]) -> io::Result<()>
     requires { 3 ≤ length table.now }
 {
-    rt.write_all(b"accepted")?;
-    say_number(rt, table[0])?;
-    say_number(rt, table[1])?;
-    say_number(rt, table[2])?;
-    rt.write_all(b"\n")
-}
-
-// Refusal 1 has no place.
-fn say_refused(rt: &impl Print, number: u64, place: usize) -> io::Result<()> {
-    rt.write_all(b"refused")?;
-    say_number(rt, number)?;
-    if number != 1 {
-        say_number(rt, place as u64)?;
-    }
-    rt.write_all(b"\n")
+    println!(rt; "accepted {} {} {}", table[0], table[1], table[2])
 }
 
 fn answer(rt: &impl Print, text: &[u8]) -> io::Result<()> {
     let mut table = [0u64; 8387];
     match read(text, &mut table) {
-        Tabled::Written => say_accepted(rt, &table),
-        Tabled::Refused { number, place } => say_refused(rt, number, place),
+        Ok(()) => say_accepted(rt, &table),
+        Err(refusal) => println!(rt; "{refusal}"),
     }
 }
 

@@ -11,12 +11,11 @@ use Rattle.names.specs.Judge.{State, Judgement, fine, refused, onward, faults, l
 use Rattle.look.specs.declared.Look.{Look}
 use Rattle.look.proofs.Looks.{There}
 use Rattle.ledger.specs.Inside.Standing.{Keeps, Judges}
-use Rattle.reading.specs.declared.Spot.{Spot}
 use Rattle.emission.specs.Inside.Draft.{Draft, placed, following, put, with_name, with_process}
 use Rattle.table.specs.Instructions.{Instruction}
 use Rattle.layout.specs.TableWords.{operation_word, delay_word}
 use Rattle.laws.specs.Pick.{pick}
-use Rattle.reading.specs.Inside.Spots.{starts_from, judgement, drafted, Judged, past, addressed}
+use Rattle.reading.specs.Inside.Spots.{Reached, starts_from, judgement, drafted, Judged, past, addressed}
 
 pub onward-onward : (j : Judgement) (f g : State → Judgement) → onward j (λ y. onward (f y) g) ≡ onward (onward j f) g
 onward-onward (fine y) f g = refl
@@ -87,7 +86,7 @@ put-drafted i y m v {n} {w} e g = sym (ap (λ k. drafted y (placed v m (operatio
 -- ONE PART AFTER THE OTHER
 
 -- where nothing is read, nothing is judged
-pub none-judged : {u : ℕ} {s : List ℕ} {p : Spot} {l v : List ℕ} → Judged u u s p p l l v v (λ r. r) (λ m. m)
+pub none-judged : {u : ℕ} {s : List ℕ} {p : Reached} {l v : List ℕ} → Judged u u s p p l l v v (λ r. r) (λ m. m)
 none-judged {p = p} {v = v} = record { after = λ j. j; keeps = λ j h. h; folds = λ j r. refl; writes = λ y y' k e. ap (λ z. drafted z v p.next) (fine-state e) }
 
 judgement_end : (s : List ℕ) (at : ℕ) (j : Judgement) → judgement s at j [] ≡ j
@@ -95,7 +94,7 @@ unfolding judgement judged
 judgement_end s at (fine y) = refl
 judgement_end s at (refused n p) = refl
 
-module _ {u u' : ℕ} {s : List ℕ} {p q : Spot} {l l' v v' : List ℕ} {f : List Role → List Role} {d : Draft → Draft} (a : Judged u u' s p q l l' v v' f d) where
+module _ {u u' : ℕ} {s : List ℕ} {p q : Reached} {l l' v v' : List ℕ} {f : List Role → List Role} {d : Draft → Draft} (a : Judged u u' s p q l l' v v' f d) where
   -- what is refused stays so
   refused-stays : (n c : ℕ) → a.after (refused n c) ≡ refused n c
   unfolding judgement
@@ -117,7 +116,7 @@ module _ {u u' : ℕ} {s : List ℕ} {p q : Spot} {l l' v v' : List ℕ} {f : Li
       → Judged u u' s p (addressed q n) l l' v w f (λ m. put i (d m))
   put-judged i e g = redrafted (λ y y' k z h. ap (put i) h ∙ put-drafted i y' q.next v' e g)
 
-module _ {u u' u'' : ℕ} {s : List ℕ} {p q r : Spot} {l l' l'' v v' v'' : List ℕ} {f g : List Role → List Role} {d o : Draft → Draft} where
+module _ {u u' u'' : ℕ} {s : List ℕ} {p q r : Reached} {l l' l'' v v' v'' : List ℕ} {f g : List Role → List Role} {d o : Draft → Draft} where
   unfoldable pub then_judged : Judged u u' s p q l l' v v' f d → Judged u' u'' s q r l' l'' v' v'' g o → Judged u u'' s p r l l'' v v'' (λ rs. f (g rs)) (λ m. o (d m))
   then_judged a b =
       record {
@@ -131,7 +130,7 @@ module _ {u u' u'' : ℕ} {s : List ℕ} {p q r : Spot} {l l' l'' v v' v'' : Lis
 
 -- ONE TOKEN
 
-module _ {s : List ℕ} {p : Spot} {t : Look} (x : There s p.at t) {v : List ℕ} where
+module _ {s : List ℕ} {p : Reached} {t : Look} (x : There s p.at t) {v : List ℕ} where
   unfoldable pub token-judged : (role : Role) {u u' : ℕ} {l l' : List ℕ} → Judges u u' s role t.start l l'
       → Judged u u' s p (past t p.next) l l' v v (λ r. role ∷ r) (draft_of role)
   unfolding judgement judged

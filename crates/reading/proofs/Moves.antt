@@ -19,8 +19,7 @@ use Rattle.look.specs.declared.Look.{Look}
 use Rattle.look.specs.Inside.Looks.{part, token_of_look}
 use Rattle.look.proofs.Looks.{There, Gone, View, there, gone}
 use Rattle.look.proofs.Numbers.{taken_by, stuck}
-use Rattle.reading.specs.declared.Spot.{Spot}
-use Rattle.reading.specs.Inside.Spots.{tokens_from, starts_from, placed_verdict, machine, verdict, past, unfit, deep}
+use Rattle.reading.specs.Inside.Spots.{Reached, tokens_from, starts_from, placed_verdict, machine, verdict, past, unfit, deep}
 
 placed-later : (e p : ℕ) (ps : List ℕ) (o : Verdict Design) → placed_verdict e (p ∷ ps) (later o) ≡ placed_verdict e ps o
 placed-later e p ps (accepted d) = refl
@@ -82,7 +81,7 @@ machine_same (gone x) X Y ss zs k g e = machine_end x X ss k ∙ sym (machine_en
 
 -- FROM A SPOT
 
-module _ (s : List ℕ) (p : Spot) where
+module _ (s : List ℕ) (p : Reached) where
   pub on : p.number ≡ 0 → (ss : List Symbol) (k : Values Value ss → Design) → verdict s p ss k ≡ machine s p.at ss k
   unfolding verdict
   on f ss k = rw (eq-eqb p.number 0 f)

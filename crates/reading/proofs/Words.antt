@@ -21,24 +21,23 @@ use Rattle.look.specs.declared.Look.{Look}
 use Rattle.look.specs.Inside.Looks.{part, look_of}
 use Rattle.look.proofs.Looks.{There, View, there, gone, seen}
 use Rattle.look.proofs.Numbers.{fixed_kind, taken_by, fixed-seen}
-use Rattle.reading.specs.declared.Spot.{Spot}
-use Rattle.reading.specs.Inside.Spots.{verdict, Judged, past, unfit, word_from, word_of}
+use Rattle.reading.specs.Inside.Spots.{Reached, verdict, Judged, past, unfit, word_from, word_of}
 use Rattle.reading.proofs.Moves.{off, some_moves, stuck-moves}
 use Rattle.reading.proofs.Judging.{passes-judged}
 
 -- what can have happened
-data Way (s : List ℕ) (p : Spot) (kind : ℕ) : Spot → Type 0 where
+data Way (s : List ℕ) (p : Reached) (kind : ℕ) : Reached → Type 0 where
   stays : (p.number ≡ 0 → ⊥) → Way s p kind p
   takes : {t : Look} → p.number ≡ 0 → There s p.at t → t.kind ≡ kind → Way s p kind (past t p.next)
   refuses : {t : Look} {n : ℕ} → p.number ≡ 0 → t ≡ look_of s p.at → (t.kind ≡ kind → ⊥) → Way s p kind (unfit t n)
 
-by_kind : (s : List ℕ) (p : Spot) (kind : ℕ) (t : Look) → (kind ≡ 117 → ⊥) → p.number ≡ 0 → t ≡ look_of s p.at → View s p.at t
-    → (b : Bool) → eqb t.kind kind ≡ b → Way s p kind (pick b (past t p.next) (unfit t p.next))
+by_kind : (s : List ℕ) (p : Reached) (kind : ℕ) (t : Look) → (kind ≡ 117 → ⊥) → p.number ≡ 0 → t ≡ look_of s p.at → View s p.at t
+    → (b : Bool) → eqb t.kind kind ≡ b → Way s p kind (pick b (past t p.next) (unfit t 0))
 by_kind s p kind t g f e (there x) true b = takes f x (eqb-true _ _ b)
 by_kind s p kind t g f e (gone x) true b = absurd (g (sym (eqb-true _ _ b) ∙ x.kind))
 by_kind s p kind t g f e v false b = refuses f e (λ h. let z : ◌≡◌ {A = Bool} true false = sym (eq-eqb _ _ h) ∙ b in let o : ◌≡◌ {A = ℕ} 0 1 = cc in omega arith)
 
-way : (s : List ℕ) (p : Spot) (kind : ℕ) → p.at ≤ length s → (kind ≡ 117 → ⊥) → Way s p kind (word_of s p kind)
+way : (s : List ℕ) (p : Reached) (kind : ℕ) → p.at ≤ length s → (kind ≡ 117 → ⊥) → Way s p kind (word_of s p kind)
 unfolding word_of
 way s p kind h g = go (eqb p.number 0) refl
   where
@@ -50,10 +49,10 @@ way s p kind h g = go (eqb p.number 0) refl
 abbrev pub OnlyAt : List ℕ → Symbol → Fixed → Look → Type 0
 OnlyAt s X w t = (small : t.kind < 117) → (t.kind ≡ fixed_kind w → ⊥) → taken_by (part s t.start t.end) t.kind small (rows X) ≡ false
 
-abbrev pub Only : List ℕ → Spot → Symbol → Fixed → Type 0
+abbrev pub Only : List ℕ → Reached → Symbol → Fixed → Type 0
 Only s p X w = p.number ≡ 0 → OnlyAt s X w (look_of s p.at)
 
-pub record Worded (w : Fixed) (s : List ℕ) (p q : Spot) : Type 0 where
+pub record Worded (w : Fixed) (s : List ℕ) (p q : Reached) : Type 0 where
   pub fine : q.number ≡ 0 → p.number ≡ 0
   pub ahead : p.at ≤ q.at
   pub inside : q.at ≤ length s
@@ -88,7 +87,7 @@ fixed_end SEMICOLON e = omega arith
 fixed_end ARROW e = omega arith
 fixed_end BECOMES e = omega arith
 
-worded-way : {w : Fixed} {s : List ℕ} {p q : Spot} → p.at ≤ length s → Way s p (fixed_kind w) q → Worded w s p q
+worded-way : {w : Fixed} {s : List ℕ} {p q : Reached} → p.at ≤ length s → Way s p (fixed_kind w) q → Worded w s p q
 worded-way {w} {s} {p} h (stays f) =
     record {
       fine = λ e. e;
@@ -128,9 +127,9 @@ worded-way {w} {s} {p} h (refuses {t} {n} f e g) = refused-way (seen h e)
         far (there x) = omega (arith, x.some, x.inside)
         far (gone x) = omega (arith, x.start)
 
-pub worded : (w : Fixed) {s : List ℕ} {p q : Spot} → p.at ≤ length s → q ≡ word_of s p (fixed_kind w) → Worded w s p q
+pub worded : (w : Fixed) {s : List ℕ} {p q : Reached} → p.at ≤ length s → q ≡ word_of s p (fixed_kind w) → Worded w s p q
 worded w {s} {p} h e = subst (Worded w s p) (sym e) (worded-way h (way s p (fixed_kind w) h (fixed_end w)))
 
 -- the word itself takes no other
-pub only-word : (s : List ℕ) (p : Spot) (w : Fixed) → Only s p (the_word w) w
+pub only-word : (s : List ℕ) (p : Reached) (w : Fixed) → Only s p (the_word w) w
 only-word s p w _ small g = rw (ne_eqb _ _ g)

@@ -1,38 +1,74 @@
-// A word or mark read at a spot of the text.
+// Where reading stands in a text, and a word or mark read there.
 #![tactic(auto)]
 
 ghost use Rattle.std.specs.Prelude.{◌≡◌, ◌≤◌, length};
-ghost use Rattle.reading.specs.Inside.Spots.{word_of};
+ghost use Rattle.reading.specs.Inside.Spots.{at_spot, reached, refusal_of, word_of, TokenAt};
 
-use look::peek;
+use look::{Look, peek};
+use refusal::{Reason, Refusal};
 
-// Where reading stands: a place of the text and the address of the next instruction; or refusal 3 or 4 (number) and its place.
-#[derive(Clone, Copy)]
+// Where reading stands: a place of the text and the address of the next instruction.
+#[derive(Clone, Copy, Debug, PartialEq, Eq)]
 pub struct Spot {
-    pub number: u64,
     pub at: usize,
     pub next: usize,
 }
 
-// A word or mark. A spot that is refused stays.
-pub fn word(text: &[u8], p: Spot, kind: usize) -> Spot
-    requires { p.at ≤ length text.now }
-    ensures { result ≡ word_of text.now p kind }
-{
-    if p.number != 0 {
-        return p;
-    }
-    let t = peek(text, p.at);
-    if t.kind == kind {
-        return Spot {
-            number: 0,
+impl Spot {
+    // Past a token for which nothing is written.
+    pub fn past(self, t: Look) -> Spot
+        ensures { result ≡ record { at = t.end; next = self.next } }
+    {
+        Spot {
             at: t.end,
-            next: p.next,
-        };
+            next: self.next,
+        }
     }
-    Spot {
-        number: 3,
-        at: t.start,
-        next: p.next,
+}
+
+// Why a token is not read, with the place where it starts: no sentence goes on with it, or it is the 33rd open bracket or `if`.
+#[derive(Clone, Copy, Debug, PartialEq, Eq)]
+pub enum Unfit {
+    NoSentence(usize),
+    TooDeep(usize),
+}
+
+// Refusals 3 and 4.
+impl From<Unfit> for Refusal {
+    ghost from_gives = { λ unfit refusal. refusal ≡ refusal_of unfit };
+
+    fn from(unfit: Unfit) -> Refusal {
+        match unfit {
+            Unfit::NoSentence(place) => Refusal {
+                reason: Reason::Sentence,
+                place,
+            },
+            Unfit::TooDeep(place) => Refusal {
+                reason: Reason::Nesting,
+                place,
+            },
+        }
     }
+}
+
+// The next token, which is to be of a kind.
+pub fn token(text: &[u8], at: usize, kind: usize) -> Result<Look, Unfit>
+    requires { at ≤ length text.now }
+    ensures { TokenAt text.now at kind result }
+{
+    let t = peek(text, at);
+    if t.kind == kind {
+        Ok(t)
+    } else {
+        Err(Unfit::NoSentence(t.start))
+    }
+}
+
+// A word or mark.
+pub fn word(text: &[u8], p: Spot, kind: usize) -> Result<Spot, Unfit>
+    requires { p.at ≤ length text.now }
+    ensures { reached result ≡ word_of text.now (at_spot p) kind }
+{
+    let t = token(text, p.at, kind)?;
+    Ok(p.past(t))
 }

@@ -1,7 +1,9 @@
 -- The numbers of the reasons, as document 01 gives them.
 -- Assumes nothing: these are definitions.
-use Rattle.std.specs.Prelude.{ℕ, ◌≡◌, refl, Bool, true, false, ◌&&◌, leb}
+use Rattle.std.specs.Prelude.{ℕ, ◌≤◌, ◌<◌, ◌≡◌, refl, Bool, true, false, ◌&&◌, leb, Result, Ok, Err, MatchResult}
 use Rattle.refusal.specs.declared.Reason.{Reason}
+use Rattle.refusal.specs.declared.NoReason.{NoReason}
+use Rattle.refusal.specs.declared.Refusal.{Refusal}
 use Rattle.refusal.specs.declared.Reason.TheVariants.{LongText, Token, Sentence, Nesting, Unknown, Taken, Closing, Delay, Driver, Size, Buffer, Stop, Table, Session, Pending, Cycles}
 
 abbrev pub number_of : Reason → ℕ
@@ -21,6 +23,15 @@ number_of Table = 13
 number_of Session = 14
 number_of Pending = 15
 number_of Cycles = 16
+
+-- the reason with a number, or that number where no reason has it
+abbrev pub Names : ℕ → Result Reason NoReason → Type 0
+Names number result = MatchResult result (λ reason. number_of reason ≡ number) (λ e. (e.0 ≡ number) × (1 ≤ number → 16 < number))
+
+-- the answer is the refusal of a number at a place
+abbrev pub RefusedAs : {A : Type 0} → Result A Refusal → (number place : ℕ) → Type 0
+RefusedAs (Ok value) number place = ⊥
+RefusedAs (Err refusal) number place = (number_of refusal.reason ≡ number) × (refusal.place ≡ place)
 
 -- 2 to 10 are given with the place where their token starts
 abbrev pub has_place : Reason → Bool

@@ -2,7 +2,7 @@
 #![tactic(auto)]
 
 ghost use Rattle.std.specs.Prelude.{◌≡◌};
-ghost use Rattle.refusal.specs.Numbers.{number_of, has_place};
+ghost use Rattle.refusal.specs.Numbers.{number_of, has_place, Names};
 
 use std::error::Error;
 use std::fmt;
@@ -77,6 +77,47 @@ impl Reason {
         2 <= number && number <= 10
     }
 }
+
+// A number that is none of the sixteen.
+#[derive(Clone, Copy, Debug, PartialEq, Eq, Hash)]
+pub struct NoReason(pub u64);
+
+// The reason that a number names.
+impl TryFrom<u64> for Reason {
+    type Error = NoReason;
+
+    ghost try_from_gives = { Names };
+
+    fn try_from(number: u64) -> Result<Reason, NoReason> {
+        match number {
+            1 => Ok(Reason::LongText),
+            2 => Ok(Reason::Token),
+            3 => Ok(Reason::Sentence),
+            4 => Ok(Reason::Nesting),
+            5 => Ok(Reason::Unknown),
+            6 => Ok(Reason::Taken),
+            7 => Ok(Reason::Closing),
+            8 => Ok(Reason::Delay),
+            9 => Ok(Reason::Driver),
+            10 => Ok(Reason::Size),
+            11 => Ok(Reason::Buffer),
+            12 => Ok(Reason::Stop),
+            13 => Ok(Reason::Table),
+            14 => Ok(Reason::Session),
+            15 => Ok(Reason::Pending),
+            16 => Ok(Reason::Cycles),
+            _ => Err(NoReason(number)),
+        }
+    }
+}
+
+impl fmt::Display for NoReason {
+    fn fmt<W: fmt::Write>(&self, f: &mut fmt::Formatter<W>) -> fmt::Result {
+        write!(f, "no reason has number {}", self.0)
+    }
+}
+
+impl Error for NoReason {}
 
 // A refusal of a text: its reason, and where its token starts (0 where it has no place).
 #[derive(Clone, Copy, Debug, PartialEq, Eq, Hash)]

@@ -5,6 +5,8 @@ use mathlib.Core.List.{List, ◌∷◌}
 use native.Mathlib.Omega.{arith}
 use lib.ListN.{length}
 use lib.Seq.{sets}
+use Rattle.std.specs.Prelude.{Result, Ok, Err}
+use Rattle.refusal.specs.declared.Reason.{Reason}
 use Rattle.rules.specs.Session.{FitSession}
 use Rattle.rules.specs.Calls.{refused, quiet, stop_reached, moved, start, advance}
 use Rattle.rules.specs.Calls as calls
@@ -19,67 +21,45 @@ use Rattle.machine.proofs.Fetching.{held, fits}
 use Rattle.cycles.specs.Inside.Turns.{session_of}
 use Rattle.session.specs.Inside.Goings.{GoesAs}
 use Rattle.session.specs.declared.Answer.{Answer}
-use Rattle.session.specs.declared.Answer.TheVariants.{Refused, Quiet, StopReached, Moves}
+use Rattle.session.specs.declared.Answer.TheVariants.{Moved as Moves}
+use Rattle.session.specs.declared.Moved.{Moved}
 use Rattle.run.specs.Lent.{Gives}
 use Rattle.run.specs.Inside.Copies.{Loaded}
 use Rattle.run.proofs.Holding.{values-here, pendings-here, cells_fit, words_are}
 
--- a call that did not move
-abbrev Still : Answer → Type 0
-Still (Refused r) = Unit {0}
-Still Quiet = Unit {0}
-Still StopReached = Unit {0}
-Still (Moves b t c s) = ⊥
-
 module _ (n : ℕ) (cells words out left after : List ℕ) where
-  still : (o : calls.Answer) (r : Answer) → Still r → GoesAs o n cells out r left after → Gives o words out r words after
-  still (refused x) r s g = record { answer = g.answer; session = refl; bytes = g.bytes }
-  still quiet r s g = record { answer = g.answer; session = refl; bytes = g.bytes }
-  still stop_reached r s g = record { answer = g.answer; session = refl; bytes = g.bytes }
-  still (moved m) r s g = absurd (subst Still g.answer s)
+  pub gives-refused : (o : calls.Answer) (reason : Reason) → GoesAs o n cells out (Err reason) left after → Gives o words out (Err reason) words after
+  gives-refused (refused r) reason g = record { answers = g.answers; session = refl; bytes = g.bytes }
+  gives-refused quiet reason g = absurd (cc g.answers)
+  gives-refused stop_reached reason g = absurd (cc g.answers)
+  gives-refused (moved m) reason g = absurd (cc g.answers)
 
-  pub gives-refused : (o : calls.Answer) (x : ℕ) → GoesAs o n cells out (Refused x) left after → Gives o words out (Refused x) words after
-  gives-refused o x g = still o (Refused x) tt g
+  pub gives-still : (o : calls.Answer) (answer : Answer) → ((m : Moved) → answer ≡ Moves m → ⊥) → GoesAs o n cells out (Ok answer) left after → Gives o words out (Ok answer) words after
+  gives-still (refused r) answer still g = absurd g.answers
+  gives-still quiet answer still g = record { answers = g.answers; session = refl; bytes = g.bytes }
+  gives-still stop_reached answer still g = record { answers = g.answers; session = refl; bytes = g.bytes }
+  gives-still (moved m) answer still g = absurd (still (record { bytes = length m.bytes; time = m.session.time; cycles = m.cycles; steps = m.steps }) (cc g.answers))
 
-  pub gives-quiet : (o : calls.Answer) → GoesAs o n cells out Quiet left after → Gives o words out Quiet words after
-  gives-quiet o g = still o Quiet tt g
-
-  pub gives-stop : (o : calls.Answer) → GoesAs o n cells out StopReached left after → Gives o words out StopReached words after
-  gives-stop o g = still o StopReached tt g
-
-  no_move : (b t c s r : ℕ) → Moves b t c s ≡ Refused r → ⊥
-  no_move b t c s r e = let z : ◌≡◌ {A = ℕ} 0 1 = cc in omega arith
-
-  -- a call that moved leaves cells that fit
-  moved_fit : (o : calls.Answer) (b t c s : ℕ) → GoesAs o n cells out (Moves b t c s) left after → FitFor n left
-  moved_fit (refused x) b t c s g = absurd (no_move b t c s x g.answer)
-  moved_fit quiet b t c s g = let e = g.answer in let z : ◌≡◌ {A = ℕ} 0 1 = cc in absurd (omega arith)
-  moved_fit stop_reached b t c s g = let e = g.answer in let z : ◌≡◌ {A = ℕ} 0 1 = cc in absurd (omega arith)
-  moved_fit (moved m) b t c s g = g.session.1
-
-  pub moved-long : (o : calls.Answer) (b t c s : ℕ) → GoesAs o n cells out (Moves b t c s) left after → length left ≡ 1152
-  moved-long o b t c s g = (moved_fit o b t c s g).fit.long
-
-  pub gives_moved : (o : calls.Answer) (b t c s : ℕ) (k : ℕ) (stored : List ℕ) → k ≡ n → stored ≡ sets words 0 (k ∷ t ∷ left)
-      → GoesAs o n cells out (Moves b t c s) left after → Gives o words out (Moves b t c s) stored after
-  gives_moved (refused x) b t c s k stored d e g = absurd (no_move b t c s x g.answer)
-  gives_moved quiet b t c s k stored d e g = let q = g.answer in let z : ◌≡◌ {A = ℕ} 0 1 = cc in absurd (omega arith)
-  gives_moved stop_reached b t c s k stored d e g = let q = g.answer in let z : ◌≡◌ {A = ℕ} 0 1 = cc in absurd (omega arith)
-  gives_moved (moved m) b t c s k stored d e g =
-      let q = g.answer in
-      let same : t ≡ m.session.time = cc in
+  pub gives_moved : (o : calls.Answer) (m : Moved) (k : ℕ) (stored : List ℕ) → k ≡ n → stored ≡ sets words 0 (k ∷ m.time ∷ left)
+      → GoesAs o n cells out (Ok (Moves m)) left after → Gives o words out (Ok (Moves m)) stored after
+  gives_moved (refused r) m k stored d e g = absurd g.answers
+  gives_moved quiet m k stored d e g = absurd (cc g.answers)
+  gives_moved stop_reached m k stored d e g = absurd (cc g.answers)
+  gives_moved (moved by) m k stored d e g =
+      let q = g.answers in
+      let same : m.time ≡ by.session.time = cc in
       record {
-        answer = g.answer;
+        answers = g.answers;
         session =
             e
             ∙ ap (λ l. sets words 0 l)
-            (ap (λ i. i ∷ t ∷ left) d ∙ words_are n t left g.session.1 ∙ ap (λ u. session_words (session_of u n left)) same ∙ ap session_words (sym g.session.0));
+            (ap (λ i. i ∷ m.time ∷ left) d ∙ words_are n m.time left g.session.1 ∙ ap (λ u. session_words (session_of u n left)) same ∙ ap session_words (sym g.session.0));
         bytes = g.bytes;
       }
 
 -- THE TABLE AND THE SESSION OF LENT WORDS
 
-pub for_table : (tb : List ℕ) (f : FitTableWords tb) (words out : List ℕ) (r : Answer) (left after : List ℕ)
+pub for_table : (tb : List ℕ) (f : FitTableWords tb) (words out : List ℕ) (r : Result Answer Reason) (left after : List ℕ)
     → Gives (start (runners (decode_table tb)) (decode_table tb).initial) words out r left after
     → Gives (start (runners f.table) f.table.initial) words out r left after
 for_table tb f words out r left after g =
@@ -107,7 +87,7 @@ module _ (tb words : List ℕ) (table : FitTableWords tb) (fit : FitSessionWords
   abbrev pub its_time : ℕ
   its_time = fit.session.time
 
-  pub for_session : (f : FitTableWords tb) (s : FitSessionWords f.table words) (stop : ℕ) (out : List ℕ) (r : Answer) (left after : List ℕ)
+  pub for_session : (f : FitTableWords tb) (s : FitSessionWords f.table words) (stop : ℕ) (out : List ℕ) (r : Result Answer Reason) (left after : List ℕ)
       → Gives (advance (runners (decode_table tb)) stop (session_of its_time n cells)) words out r left after
       → Gives (advance (runners f.table) stop s.session) words out r left after
   for_session f s stop out r left after g =

@@ -3,7 +3,10 @@ use Prim.Native.Nat.{ℕ}
 use mathlib.Core.Path.{◌≡◌, refl, ap, sym, subst, ◌∙◌}
 use mathlib.Core.List.{List}
 use native.Mathlib.Omega.{arith}
-use Rattle.rules.specs.Calls.{start, advance}
+use Rattle.std.specs.Prelude.{Result, Ok, Err}
+use Rattle.refusal.specs.declared.Reason.{Reason}
+use Rattle.refusal.proofs.Numbers.{one_reason}
+use Rattle.rules.specs.Calls.{refused, quiet, stop_reached, moved, start, advance}
 use Rattle.rules.specs.Calls as calls
 use Rattle.rules.specs.Session.{Session}
 use Rattle.table.specs.Table.{Table, runners}
@@ -11,9 +14,10 @@ use Rattle.layout.specs.TableWords.{FitTableWords}
 use Rattle.layout.specs.SessionWords.{FitSessionWords}
 use Rattle.layout.proofs.Tables.{table_of_fit_words}
 use Rattle.layout.proofs.Sessions.{session_of_fit_words}
-use Rattle.session.specs.Answers.{answer_of, out_after}
+use Rattle.session.specs.Answers.{AnswersAs, started, out_after}
+use Rattle.session.specs.declared.Moved.{Moved}
 use Rattle.session.specs.declared.Answer.{Answer}
-use Rattle.run.specs.Lent.{words_after, StartDue, AdvanceDue, Starts, Advances}
+use Rattle.run.specs.Lent.{words_after, Gives, StartDue, AdvanceDue, Starts, Advances}
 use Rattle.run.specs.Lent as lent
 
 module _ (tb ws bs : List ℕ) where
@@ -64,27 +68,42 @@ module _ (tb ws bs : List ℕ) where
       ∙ ap (λ (x : Session). advance (runners f.table) stop x)
       (session_of_fit_words e.table ws e.fit.few_signals u ∙ sym (session_of_fit_words f.table ws f.fit.few_signals s))
 
+-- no second answer fits: a number is that of one reason
+pub one-answer : (o : calls.Answer) (r q : Result Answer Reason) → AnswersAs o r → AnswersAs o q → r ≡ q
+one-answer (refused number) (Err a) (Err b) e d = ap Err (one_reason a b (e ∙ sym d))
+one-answer (refused number) (Ok a) q e d = absurd e
+one-answer (refused number) (Err a) (Ok b) e d = absurd d
+one-answer quiet r q e d = e ∙ sym d
+one-answer stop_reached r q e d = e ∙ sym d
+one-answer (moved m) r q e d = e ∙ sym d
+
 -- the theorems: what a call answers, and every word and byte that it leaves
-pub record Same (r q : Answer) (ws vs bs cs : List ℕ) : Type 0 where
+pub record Same (r q : Result Answer Reason) (ws vs bs cs : List ℕ) : Type 0 where
   pub answer : r ≡ q
   pub session : ws ≡ vs
   pub bytes : bs ≡ cs
 
-pub one_start : (tb ws bs : List ℕ) (r q : Answer) (us vs cs ds : List ℕ) → Starts tb ws bs r us cs → Starts tb ws bs q vs ds → Same r q us vs cs ds
-one_start tb ws bs r q us vs cs ds a b =
-    let e : a.says ≡ b.says = start-once tb ws bs a.says b.says a.due b.due in
+same : (o p : calls.Answer) (e : o ≡ p) (before out : List ℕ) (r q : Result Answer Reason) (us vs cs ds : List ℕ) → Gives o before out r us cs → Gives p before out q vs ds
+    → Same r q us vs cs ds
+same o p e before out r q us vs cs ds a b =
     record {
-      answer = a.gives.answer ∙ ap answer_of e ∙ sym b.gives.answer;
-      session = a.gives.session ∙ ap (λ o. words_after o ws) e ∙ sym b.gives.session;
-      bytes = a.gives.bytes ∙ ap (λ o. out_after o bs) e ∙ sym b.gives.bytes;
+      answer = one-answer o r q a.answers (subst (λ p. AnswersAs p q) (sym e) b.answers);
+      session = a.session ∙ ap (λ o. words_after o before) e ∙ sym b.session;
+      bytes = a.bytes ∙ ap (λ o. out_after o out) e ∙ sym b.bytes;
     }
 
-pub one_advance : (tb ws bs : List ℕ) (stop : ℕ) (r q : Answer) (us vs cs ds : List ℕ) → Advances tb ws bs stop r us cs → Advances tb ws bs stop q vs ds
+pub one_start : (tb ws bs : List ℕ) (r q : Result Answer Reason) (us vs cs ds : List ℕ) → Starts tb ws bs r us cs → Starts tb ws bs q vs ds → Same r q us vs cs ds
+one_start tb ws bs r q us vs cs ds a b =
+    same a.says b.says (start-once tb ws bs a.says b.says a.due b.due) ws bs r q us vs cs ds a.gives b.gives
+
+pub one_advance : (tb ws bs : List ℕ) (stop : ℕ) (r q : Result Answer Reason) (us vs cs ds : List ℕ) → Advances tb ws bs stop r us cs → Advances tb ws bs stop q vs ds
     → Same r q us vs cs ds
 one_advance tb ws bs stop r q us vs cs ds a b =
-    let e : a.says ≡ b.says = advance-once tb ws bs stop a.says b.says a.due b.due in
-    record {
-      answer = a.gives.answer ∙ ap answer_of e ∙ sym b.gives.answer;
-      session = a.gives.session ∙ ap (λ o. words_after o ws) e ∙ sym b.gives.session;
-      bytes = a.gives.bytes ∙ ap (λ o. out_after o bs) e ∙ sym b.gives.bytes;
-    }
+    same a.says b.says (advance-once tb ws bs stop a.says b.says a.due b.due) ws bs r q us vs cs ds a.gives b.gives
+
+-- what a start answers is one value too, as its answer is never quiet
+pub one_started : (r q : Result Moved Reason) → started r ≡ started q → r ≡ q
+one_started (Ok a) (Ok b) e = cc
+one_started (Ok a) (Err b) e = absurd (cc e)
+one_started (Err a) (Ok b) e = absurd (cc e)
+one_started (Err a) (Err b) e = cc

@@ -1,6 +1,6 @@
 -- Start and advance over lent words: which answer is due, and what it leaves of each lent word and byte.
 -- Assumes nothing: these are definitions.
-use Rattle.std.specs.Prelude.{ℕ, ◌≤◌, ◌<◌, ◌≡◌, List, length}
+use Rattle.std.specs.Prelude.{ℕ, ◌≤◌, ◌<◌, ◌≡◌, List, length, Result}
 use Rattle.std.proofs.lemmas.List.Edits.{sets}
 use Rattle.words.specs.Unit.{longest}
 use Rattle.rules.specs.Sizes.{buffer_bytes}
@@ -9,7 +9,8 @@ use Rattle.rules.specs.Calls as calls
 use Rattle.table.specs.Table.{runners}
 use Rattle.layout.specs.TableWords.{table_size, FitTableWords}
 use Rattle.layout.specs.SessionWords.{session_size, session_words, FitSessionWords}
-use Rattle.session.specs.Answers.{answer_of, out_after}
+use Rattle.refusal.specs.declared.Reason.{Reason}
+use Rattle.session.specs.Answers.{AnswersAs, out_after}
 use Rattle.session.specs.declared.Answer.{Answer}
 
 -- the session's words after a call: those of the session that it leaves, where it moved; the words behind them stay
@@ -42,17 +43,17 @@ pub data AdvanceDue (table session out : List ℕ) (stop : ℕ) : calls.Answer �
       → AdvanceDue table session out stop (advance (runners f.table) stop s.session)
 
 -- a call that gives the answer o, and leaves the lent words and bytes that o leaves
-pub record Gives (o : calls.Answer) (before out : List ℕ) (r : Answer) (session_left out_left : List ℕ) : Type 0 where
-  pub answer : r ≡ answer_of o
+pub record Gives (o : calls.Answer) (before out : List ℕ) (answer : Result Answer Reason) (session_left out_left : List ℕ) : Type 0 where
+  pub answers : AnswersAs o answer
   pub session : session_left ≡ words_after o before
   pub bytes : out_left ≡ out_after o out
 
-pub record Starts (table session out : List ℕ) (r : Answer) (session_left out_left : List ℕ) : Type 0 where
+pub record Starts (table session out : List ℕ) (answer : Result Answer Reason) (session_left out_left : List ℕ) : Type 0 where
   pub says : calls.Answer
   pub due : StartDue table session out says
-  pub gives : Gives says session out r session_left out_left
+  pub gives : Gives says session out answer session_left out_left
 
-pub record Advances (table session out : List ℕ) (stop : ℕ) (r : Answer) (session_left out_left : List ℕ) : Type 0 where
+pub record Advances (table session out : List ℕ) (stop : ℕ) (answer : Result Answer Reason) (session_left out_left : List ℕ) : Type 0 where
   pub says : calls.Answer
   pub due : AdvanceDue table session out stop says
-  pub gives : Gives says session out r session_left out_left
+  pub gives : Gives says session out answer session_left out_left

@@ -7,16 +7,13 @@ ghost use Rattle.cells.specs.Cells.{FitFor};
 ghost use Rattle.machine.specs.Inside.Steps.{signals_of};
 ghost use Rattle.machine.specs.Inside.Relays.{Relayed};
 
+use machine::Machine;
+use refusal::Reason;
 use session::Answer;
 
-fn time_of(answer: Answer) -> u64 {
+fn time_of(answer: Result<Answer, Reason>) -> u64 {
     match answer {
-        Answer::Moves {
-            bytes: _,
-            time: t,
-            cycles: _,
-            steps: _,
-        } => t,
+        Ok(Answer::Moved(moved)) => moved.time,
         _ => 0,
     }
 }
@@ -42,7 +39,16 @@ pub extern "C" fn run_bench_begin(
     requires relayed { Relayed table.now relays.now }
     requires in_bounds { 4096 ≤ length out.old }
 {
-    time_of(session::begin(cells, table, &table[..0], relays, out))
+    time_of(session::begin(
+        cells,
+        &Machine {
+            table,
+            plan: &[],
+            relays,
+        },
+        out,
+    )
+    .map(Answer::Moved))
 }
 
 // An advance on cells, without a test of fitness.
@@ -60,13 +66,22 @@ pub extern "C" fn run_bench_forward(
     requires stop_bound { stop ≤ 1000000000000000000 }
     requires in_bounds { 4096 ≤ length out.old }
 {
-    time_of(session::forward(cells, table, &table[..0], relays, stop, out))
+    time_of(session::forward(
+        cells,
+        &Machine {
+            table,
+            plan: &[],
+            relays,
+        },
+        stop,
+        out,
+    ))
 }
 
 // The start on lent words.
 #[unsafe(no_mangle)]
 pub extern "C" fn run_bench_start(table: &[u64], words: &mut [u64], out: &mut [u8]) -> u64 {
-    time_of(run::start(table, words, out))
+    time_of(run::start(table, words, out).map(Answer::Moved))
 }
 
 // An advance on lent words.

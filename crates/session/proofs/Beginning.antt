@@ -1,13 +1,17 @@
 -- The start on cells is the start. Assumes nothing.
-use Prim.Native.Nat.{ℕ, zero, suc, ◌+◌, ◌*◌, ◌<◌, ◌≤◌}
+use Prim.Native.Nat.{ℕ, zero, suc, ◌+◌, ◌-◌, ◌*◌, ◌<◌, ◌≤◌}
 use mathlib.Core.Path.{◌≡◌, refl, ap, sym, ◌∙◌}
-use mathlib.Core.List.{List, []}
+use mathlib.Core.List.{List, [], ◌++◌}
 use mathlib.Core.Bool.{true}
 use native.Mathlib.Omega.{arith}
-use lib.ListN.{length, get_or, set, replicate, length-set, length-replicate}
+use lib.ListN.{length, get_or, drop, replicate, length-append, length-drop, length-replicate, get_or-append}
 use lib.Pow.{pow_pos}
-use lib.Seq.{get_or-set_same, get_or-set_other}
-use Rattle.laws.proofs.Cases.{by}
+use Rattle.std.specs.List.{between}
+use Rattle.std.proofs.lemmas.List.{get_or-append_right, get_or-drop}
+use Rattle.std.proofs.lemmas.List.Edits.{get_or-between}
+use Rattle.std.specs.Prelude.{Ok, Err}
+use Rattle.refusal.specs.declared.Reason.{Reason}
+use Rattle.refusal.specs.Numbers.{number_of}
 use Rattle.rules.specs.Outcome.{Outcome, refuses, gives, ◌then◌}
 use Rattle.rules.specs.Formulas.{Values}
 use Rattle.rules.specs.Pending.{Change, Pending, due_in}
@@ -25,7 +29,7 @@ use Rattle.layout.proofs.Tables.{decode_table}
 use Rattle.cells.specs.Cells.{truth, pending_of, value_of, values, pendings, Fit, FitFor, Due}
 use Rattle.cells.proofs.Tabulating.{tabulate_same}
 use Rattle.machine.specs.Inside.Steps.{signals_of}
-use Rattle.machine.specs.declared.Ran.TheVariants.{Done, Full}
+use Rattle.machine.specs.declared.Ran.{Ran}
 use Rattle.machine.proofs.Fetching.{held, fits}
 use Rattle.cycles.specs.Inside.Turns.{processes_of, turns, WakesAs, session_of, progress_of}
 use Rattle.cycles.proofs.Waking.{turns-threaded}
@@ -33,34 +37,26 @@ use Rattle.session.specs.Inside.Goings.{Fresh, AllOf}
 
 -- THE CELLS AT THE START
 
--- the values of the first k places are there, and nothing else
-pub record Filling (tb cells : List ℕ) (k : ℕ) : Type 0 where
-  pub long : length cells ≡ 1152
-  pub filled : (j : ℕ) → j < k → get_or cells j 0 ≡ get_or tb (initial_from + j) 0
-  pub empty : (j : ℕ) → k ≤ j → get_or cells j 0 ≡ 0
+-- the values are there, and nothing else
+record Filled (tb cells : List ℕ) : Type 0 where
+  long : length cells ≡ 1152
+  filled : (j : ℕ) → j < 64 → get_or cells j 0 ≡ get_or tb (initial_from + j) 0
+  empty : (j : ℕ) → 64 ≤ j → get_or cells j 0 ≡ 0
 
 same_anywhere : {A : Type 0} (n j : ℕ) (a : A) → get_or (replicate n a) j a ≡ a
 same_anywhere zero j a = refl
 same_anywhere (suc n) zero a = refl
 same_anywhere (suc n) (suc j) a = same_anywhere n j a
 
-pub filling_none : (tb : List ℕ) (n : ℕ) → n ≡ 1152 → Filling tb (replicate n 0) 0
-filling_none tb n e = record { long = length-replicate n 0 ∙ e; filled = λ j l. absurd (omega arith); empty = λ j l. same_anywhere n j 0 }
-
-pub filling_more : (tb cells : List ℕ) (k : ℕ) → k < 64 → Filling tb cells k → Filling tb (set cells k (get_or tb (initial_from + k) 0)) (k + 1)
-filling_more tb cells k l f =
+copied : (tb values : List ℕ) → values ≡ between 3 67 tb → length values ≡ 64 → Filled tb (values ++ drop 64 (replicate 1152 0))
+copied tb values e n =
     record {
-      long = simp length-set f.long;
-      filled = λ j h. by j k
-          (λ e. rw e (get_or-set_same cells k (get_or tb (initial_from + k) 0) 0 (omega (arith, f.long))))
-          (λ ne. get_or-set_other cells k j (get_or tb (initial_from + k) 0) 0 ne ∙ f.filled j (below j k h ne));
-      empty = λ j h. get_or-set_other cells k j (get_or tb (initial_from + k) 0) 0 (λ e. omega arith) ∙ f.empty j (omega arith);
+      long = rw length-append (omega (arith, length-drop {A = ℕ} 64 (replicate 1152 0), length-replicate {A = ℕ} 1152 0));
+      filled = λ j l. get_or-append values (drop 64 (replicate 1152 0)) 0 j (omega (arith, n)) ∙ ap (λ l. get_or l j 0) e ∙ get_or-between tb 3 67 j 0 (omega arith);
+      empty = λ j l. get_or-append_right values (drop 64 (replicate 1152 0)) 64 j 0 n l ∙ get_or-drop 64 (replicate 1152 0) (j - 64) 0 ∙ same_anywhere 1152 (64 + (j - 64)) 0;
     }
-  where
-    below : (j k : ℕ) → j < k + 1 → (j ≡ k → ⊥) → j < k
-    below j k h ne = omega arith
 
-module _ (tb : List ℕ) (table : FitTableWords tb) (cells : List ℕ) (f : Filling tb cells 64) where
+module _ (tb : List ℕ) (table : FitTableWords tb) (cells : List ℕ) (f : Filled tb cells) where
   abbrev n : ℕ
   n = signals_of tb
 
@@ -101,8 +97,11 @@ module _ (tb : List ℕ) (table : FitTableWords tb) (cells : List ℕ) (f : Fill
   unfolding pendings
   its_pending = no_tabulate (pending_of cells) 0 n no_changes_lem ∙ ap (λ m. replicate m []) (held tb table).signals
 
-  pub filled-up : Fresh tb cells
+  filled-up : Fresh tb cells
   filled-up = record { fit = fit_for; values = its_values; pending = its_pending }
+
+pub fresh_copied : (tb values : List ℕ) → FitTableWords tb → values ≡ between 3 67 tb → length values ≡ 64 → Fresh tb (values ++ drop 64 (replicate 1152 0))
+fresh_copied tb values table e n = filled-up tb table (values ++ drop 64 (replicate 1152 0)) (copied tb values e n)
 
 -- THE RUN
 
@@ -150,25 +149,25 @@ module _ (tb : List ℕ) (table : FitTableWords tb) (cs : List ℕ) (fresh : Fre
         (one_after_the_other t (fits tb table) (values signals cs) 0 (λ wakes. true) (pendings signals cs) 0
         ∙ in_turn (record { pending = pendings signals cs; steps = 0 }))
 
-    pub begin_full : (ds : List ℕ) → WakesAs cs tb word 0 0 Full ds → start (runners t) t.initial ≡ refused 15
+    pub begin_full : (reason : Reason) (ds : List ℕ) → WakesAs cs tb word 0 0 (Err reason) ds → start (runners t) t.initial ≡ refused (number_of reason)
     unfolding start
-    begin_full ds w = ap (answered start_bytes) (begins ∙ ap (λ (o : Outcome Left). o then onward) w.ran)
+    begin_full reason ds w = rw w.ran.0 (ap (answered start_bytes) (begins ∙ ap (λ (o : Outcome Left). o then onward) w.ran.1))
 
-    module _ (steps due : ℕ) (ds : List ℕ) (w : WakesAs cs tb word 0 0 (Done steps due) ds) where
-      pub due-after : Due due 0 (pendings signals ds)
+    module _ (ran : Ran) (ds : List ℕ) (w : WakesAs cs tb word 0 0 (Ok ran) ds) where
+      pub due-after : Due ran.due 0 (pendings signals ds)
       due-after = w.ran.due nothing-due
 
-      begun : started (runners t) t.initial ≡ cycles (runners t) 1000 0 (progress_of 0 signals ds 0 steps)
+      begun : started (runners t) t.initial ≡ cycles (runners t) 1000 0 (progress_of 0 signals ds 0 ran.steps)
       begun =
           begins
           ∙ ap (λ (o : Outcome Left). o then onward) w.ran.ran
-          ∙ ap (λ (vs : Values). cycles (runners t) 1000 0 (record { session = record { time = 0; values = vs; pending = pendings signals ds }; cycles = 0; steps = steps })) (sym w.same)
+          ∙ ap (λ (vs : Values). cycles (runners t) 1000 0 (record { session = record { time = 0; values = vs; pending = pendings signals ds }; cycles = 0; steps = ran.steps })) (sym w.same)
 
-      pub begin-refused : (r : ℕ) → cycles (runners t) 1000 0 (progress_of 0 signals ds 0 steps) ≡ refuses r → start (runners t) t.initial ≡ refused r
+      pub begin-refused : (number : ℕ) → cycles (runners t) 1000 0 (progress_of 0 signals ds 0 ran.steps) ≡ refuses number → start (runners t) t.initial ≡ refused number
       unfolding start
-      begin-refused r e = ap (answered start_bytes) (begun ∙ e)
+      begin-refused number e = ap (answered start_bytes) (begun ∙ e)
 
-      pub begin-moved : (c m : ℕ) (fs : List ℕ) → cycles (runners t) 1000 0 (progress_of 0 signals ds 0 steps) ≡ gives (progress_of 0 signals fs c m)
+      pub begin-moved : (c m : ℕ) (fs : List ℕ) → cycles (runners t) 1000 0 (progress_of 0 signals ds 0 ran.steps) ≡ gives (progress_of 0 signals fs c m)
           → start (runners t) t.initial ≡ moved (record { session = session_of 0 signals fs; bytes = start_bytes (values signals fs); cycles = c; steps = m })
       unfolding start
       begin-moved c m fs e = ap (answered start_bytes) (begun ∙ e)

@@ -3,20 +3,24 @@ use Prim.Native.Nat.{ℕ, ◌<◌, ◌≤◌}
 use mathlib.Core.Path.{◌≡◌, ap, ◌∙◌}
 use mathlib.Core.List.{List}
 use borrow.Author.Tests.{lt-ltb, le-ltb}
+use Rattle.std.specs.Prelude.{Some, None}
 use Rattle.rules.specs.Outcome.{refuses, gives}
 use Rattle.rules.specs.Runner.{Runner}
 use Rattle.rules.specs.Dump.{advance_bytes}
 use Rattle.rules.specs.Calls.{refused, quiet, stop_reached, moved, answered, cycles, advance}
 use Rattle.cells.specs.Cells.{values, pendings, ComesNext}
-use Rattle.cells.specs.declared.Coming.TheVariants.{Nothing, At}
+use Rattle.cells.specs.declared.Coming.{Coming}
 use Rattle.cycles.specs.Inside.Turns.{session_of, progress_of}
 
 module _ (rs : List Runner) (n : ℕ) (cs : List ℕ) (stop was : ℕ) where
-  pub forward-quiet : ComesNext (pendings n cs) Nothing → advance rs stop (session_of was n cs) ≡ quiet
+  pub forward-quiet : ComesNext (pendings n cs) None → advance rs stop (session_of was n cs) ≡ quiet
   unfolding advance
   forward-quiet e = rw e
 
-  module _ (t word : ℕ) (next : ComesNext (pendings n cs) (At t word)) where
+  module _ (at : Coming) (next : ComesNext (pendings n cs) (Some at)) where
+    abbrev t : ℕ
+    t = at.time
+
     pub forward-stop : stop < t → advance rs stop (session_of was n cs) ≡ stop_reached
     unfolding advance
     forward-stop l = rw (next.0, lt-ltb stop t l)

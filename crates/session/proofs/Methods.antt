@@ -4,14 +4,15 @@ use mathlib.Core.Path.{◌≡◌, refl}
 use mathlib.Core.Bool.{Bool}
 use mathlib.Core.List.{List}
 use native.Mathlib.Omega.{arith}
+use Rattle.std.specs.Prelude.{Result, Ok, Err}
+use Rattle.refusal.specs.declared.Reason.{Reason}
 use Rattle.table.specs.Table.{runners}
 use Rattle.layout.proofs.Tables.{decode_table}
-use Rattle.cells.specs.Cells.{pendings, FitFor, Posted, Due}
+use Rattle.cells.specs.Cells.{FitFor, Posted}
 use Rattle.cells.proofs.Columns.{same_values}
 use Rattle.cells.proofs.Dues.{fit-posted}
 use Rattle.machine.specs.Inside.Steps.{signals_of}
 use Rattle.machine.specs.declared.Ran.{Ran}
-use Rattle.machine.specs.declared.Ran.TheVariants.{Done, Full}
 use Rattle.cycles.specs.Inside.Turns.{Taken, CyclesAs}
 use Rattle.cycles.proofs.Cycling.{new-values, new-pending}
 use Rattle.session.specs.Sessions.{PostsAs, TakesAs, CycleAs}
@@ -43,13 +44,6 @@ module _ (tb : List ℕ) (n u : ℕ) (cs ds : List ℕ) (e : n ≡ signals_of tb
         fit = s.fit;
       })
 
-  pub method_cycles : (t n₀ : ℕ) (r : Ran) (v : ℕ) → CyclesAs cs tb t n₀ r v ds → CycleAs (runners (decode_table tb)) (held n u cs) t n₀ r (held n t ds)
-  method_cycles t n₀ (Done steps due) v g = rw e (λ c. (g.ran u c).ran)
-  method_cycles t n₀ Full v g = rw e (λ c. g.ran u c)
-
-  -- what is due, for the table's number of signals
-  pub method_due : (word t : ℕ) → Due word t (pendings n cs) → Due word t (pendings (signals_of tb) cs)
-  method_due word t d = rw e at d
-
-  pub method_fit : FitFor n cs → FitFor (signals_of tb) cs
-  method_fit f = rw e at f
+  pub method_cycles : (t n₀ : ℕ) (r : Result Ran Reason) (v : ℕ) → CyclesAs cs tb t n₀ r v ds → CycleAs (runners (decode_table tb)) (held n u cs) t n₀ r (held n t ds)
+  method_cycles t n₀ (Ok ran) v g = rw e (λ c. (g.ran u c).ran)
+  method_cycles t n₀ (Err reason) v g = rw e ((g.ran u 0).0, λ c. (g.ran u c).1)

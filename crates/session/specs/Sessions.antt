@@ -1,6 +1,8 @@
 -- The session that a struct of count, time and cells is, and what its methods do: post, take the changes of a time, run a cycle.
 -- Assumes nothing: these are definitions.
-use Rattle.std.specs.Prelude.{ℕ, ◌+◌, ◌≡◌, Bool, List, map}
+use Rattle.std.specs.Prelude.{ℕ, ◌+◌, ◌≡◌, Bool, List, map, Result, Ok, Err}
+use Rattle.refusal.specs.declared.Reason.{Reason}
+use Rattle.refusal.specs.declared.Reason.TheVariants.{Pending}
 use Rattle.rules.specs.Outcome.{refuses, gives}
 use Rattle.rules.specs.Pending.{change, post, kept, values_at}
 use Rattle.rules.specs.Runner.{Runner}
@@ -8,7 +10,6 @@ use Rattle.rules.specs.Session.{Session}
 use Rattle.rules.specs.Calls.{Progress, cycle}
 use Rattle.cells.specs.Cells.{values, pendings, FitFor, told}
 use Rattle.machine.specs.declared.Ran.{Ran}
-use Rattle.machine.specs.declared.Ran.TheVariants.{Done, Full}
 use Rattle.session.specs.declared.Session.{Session as Held}
 
 abbrev pub session_in : Held → Session
@@ -39,6 +40,6 @@ abbrev pub progress_in : Held → ℕ → ℕ → Progress
 progress_in s c steps = record { session = session_in s; cycles = c; steps = steps }
 
 -- one cycle at t, or refusal 15
-abbrev pub CycleAs : List Runner → Held → ℕ → ℕ → Ran → Held → Type 0
-CycleAs rs s t n₀ (Done steps due) after = (c : ℕ) → cycle rs t (progress_in s c n₀) ≡ gives (progress_in after (c + 1) steps)
-CycleAs rs s t n₀ Full after = (c : ℕ) → cycle rs t (progress_in s c n₀) ≡ refuses 15
+abbrev pub CycleAs : List Runner → Held → ℕ → ℕ → Result Ran Reason → Held → Type 0
+CycleAs rs s t n₀ (Ok ran) after = (c : ℕ) → cycle rs t (progress_in s c n₀) ≡ gives (progress_in after (c + 1) ran.steps)
+CycleAs rs s t n₀ (Err reason) after = (reason ≡ Pending) × ((c : ℕ) → cycle rs t (progress_in s c n₀) ≡ refuses 15)

@@ -8,7 +8,7 @@ use mathlib.Core.Option.{some}
 use mathlib.Core.List.{List, [], ◌∷◌}
 use lib.Dec.{eqb, ltb}
 use lib.ListN.{length, get_or}
-use borrow.Author.Tests.{eq-eqb, ne_eqb, eqb-true, ltb-false}
+use borrow.Author.Tests.{ne_eqb, eqb-true, ltb-false}
 use Rattle.laws.specs.Pick.{pick}
 use Rattle.laws.proofs.Ranges.{within-below, within-above}
 use Rattle.words.specs.Token.{Name, AFTER, IF, THEN, ELSE, END, NULL, SEMICOLON, ARROW, TRANSPORT, fixed}
@@ -31,14 +31,17 @@ use Rattle.look.specs.Inside.Looks.{part, name_at, look_of, token_of_look, unit_
 use Rattle.look.proofs.Looks.{seen, seen-there}
 use Rattle.look.proofs.Numbers.{taken_by, misfit, unit-token, name-seen, integer-seen, fixed-seen}
 use Rattle.ledger.specs.Inside.Standing.{Span, Keeps, keeps_fine, Judges, Numbers, Lasts}
-use Rattle.reading.specs.declared.Spot.{Spot}
-use Rattle.reading.specs.Inside.Spots.{verdict, drafted, Judged, addressed, past, unfit, deep, word_of, end_if_of, starter, Stops, Forward}
-use Rattle.reading.specs.Inside.Reading.{What, an_expression, a_statement, some_statements, closes, onto, ending_roles, finish_roles, Reads}
+use Rattle.reading.specs.Inside.Spots.{Reached, reached, verdict, drafted, Judged, addressed, past, unfit, deep, word_of, end_if_of, starter, Stops}
+use Rattle.reading.specs.Inside.Reading.{an_expression, a_statement, some_statements, closes, onto, ending_roles, finish_roles, Reads}
 use Rattle.reading.proofs.Moves.{some_moves, deep-moves, stuck-moves, same_moves}
 use Rattle.reading.proofs.Judging.{fine_before, redrafted, put-drafted, put-judged, none-judged, then_judged, token-judged, passes-judged}
 use Rattle.reading.proofs.Words.{Only, worded, only-word}
-use Rattle.reading.proofs.Generic.{near, within_text, span, to_address}
-use Rattle.statements.specs.Inside.Ending.{an_ending, Ends}
+use Rattle.reading.proofs.Generic.{numbered, word-off, reads-stays, reads-ends, near, within_text, span, to_address}
+use Rattle.statements.specs.Inside.Ending.{ending_reached, ending_delay, an_ending, Ends}
+use Rattle.statements.specs.declared.Ending.{Ending}
+use Rattle.reading.specs.declared.Unfit.{Unfit}
+use Rattle.std.specs.Prelude.{Result, Err, IsErrAnd}
+use Rattle.std.proofs.lemmas.Result.{err_from_is_err_and}
 
 -- a delay that is not refused is not too long
 not-long : (y : State) (n place : ℕ) (u : TimeUnit) {z : State} → judge y (delays n u) place ≡ fine z → n * femtoseconds_of u ≤ longest
@@ -52,8 +55,23 @@ clear : {s l : List ℕ} {y : State} → Keeps 0 s l (fine y) → get_or l 0 0 �
 clear (keeps_fine d) = d.clear
 
 -- where it is refused, nothing is said of the delay
-pub ends-refused : {s : List ℕ} {room : ℕ} {p q : Spot} {delay : ℕ} {l l' v : List ℕ} → (q.number ≡ 0 → ⊥) → Reads an_ending s room p q l l' v v → Ends s room p q delay l l' v
+pub ends-refused : {s : List ℕ} {room : ℕ} {p q : Reached} {delay : ℕ} {l l' v : List ℕ} → (q.number ≡ 0 → ⊥) → Reads an_ending s room p q l l' v v → Ends s room p q delay l l' v
 ends-refused f d = record { reads = d; lasts = λ z y y' k g. absurd (f z) }
+
+pub ends-stays : {s : List ℕ} {room : ℕ} {p : Reached} {l v : List ℕ} → p.at ≤ length s → (p.number ≡ 0 → ⊥) → Ends s room p p 0 l l v
+ends-stays h f = ends-refused f (reads-stays _ h f)
+
+-- a refusal ends the reading
+pub ending-ends : {s : List ℕ} {room : ℕ} {p : Reached} {l l' v v' : List ℕ} (q : Result Ending Unfit) (r : Unfit) → IsErrAnd q (λ e. e ≡ r)
+    → Reads an_ending s room p (reached (Err r)) l l' v v' → Ends s room p (ending_reached q) (ending_delay q) l l' v
+ending-ends {s} {room} {p} {l} {l'} {v} q r h d =
+    let e = err_from_is_err_and q h in
+    let o : Ends s room p (reached (Err r)) 0 l l' v = ends-refused (numbered r) (reads-ends (Err r) r refl d) in
+    rw (e.1, e.2) o
+
+-- `end` `if` `;` behind a refusal
+pub end_if-off : (s : List ℕ) (q : Reached) → (q.number ≡ 0 → ⊥) → q ≡ end_if_of s q
+end_if-off s q f = word-off s q 114 f ∙ ap (λ (x : Reached). word_of s x 114) (word-off s q 11 f ∙ ap (λ (x : Reached). word_of s x 11) (word-off s q 2 f))
 
 -- the integer behind `after`
 pub integer-span : {s : List ℕ} {at : ℕ} {i : Look} → at ≤ length s → (look_of s at).kind ≡ 10 → i ≡ look_of s (look_of s at).end → i.kind ≡ 109 → Span s i.start i.end
@@ -77,7 +95,7 @@ if_step c = record {
 -- WHAT IS WRITTEN
 
 -- an assignment, behind its delay
-assignment-judged : {s : List ℕ} {room : ℕ} {p q r : Spot} {number delay m : ℕ} {l l2 l3 v v1 v2 : List ℕ} {f : List Role → List Role} (n : Name) (x : Expression)
+assignment-judged : {s : List ℕ} {room : ℕ} {p q r : Reached} {number delay m : ℕ} {l l2 l3 v v1 v2 : List ℕ} {f : List Role → List Role} (n : Name) (x : Expression)
     → Judged 0 0 s p q l l2 v v1 f (expression_draft x) → (ends : Ends s room q r delay l2 l3 v1) → r.number ≡ 0 → Numbers s l n number
     → m ≡ following r.next → v2 ≡ placed v1 r.next (9 + 16 * number) delay
     → Judged 0 0 s p (addressed r m) l l3 v v2 (λ rs. f (ending_roles ends.reads.tree rs)) (statement_draft (assignment n x ends.reads.tree))
@@ -98,7 +116,7 @@ targets : (a b : Draft) {c : Draft} (y : State) {v w : List ℕ} {m k n : ℕ} �
 unfolding with_targets
 targets a b y e1 e2 e3 e4 = rw (e3, e4, e1, e2)
 
-if_judged : {s : List ℕ} {p a b r : Spot} {m1 m2 : ℕ} {l l2 l3 l4 v v1 v2 v3 v4 v5 v6 v7 : List ℕ} {f g k : List Role → List Role} (x : Expression) (ss : Statements) (o : Otherwise)
+if_judged : {s : List ℕ} {p a b r : Reached} {m1 m2 : ℕ} {l l2 l3 l4 v v1 v2 v3 v4 v5 v6 v7 : List ℕ} {f g k : List Role → List Role} (x : Expression) (ss : Statements) (o : Otherwise)
     → Judged 0 0 s p a l l2 v v1 f (expression_draft x) → m1 ≡ following a.next → v2 ≡ placed v1 a.next 10 0
     → Judged 0 0 s (addressed a m1) b l2 l3 v2 v3 g (statements_draft ss) → m2 ≡ following b.next → v4 ≡ placed v3 b.next 11 0
     → Judged 0 0 s (addressed b m2) r l3 l4 v4 v5 k (otherwise_draft o) → v6 ≡ aimed v5 a.next 10 m2 → v7 ≡ aimed v6 b.next 11 r.next
@@ -113,8 +131,8 @@ if_judged {a = a} {b} {r} {v5 = v5} x ss o c e1 e2 d e3 e4 last e5 e6 =
     targets _ _ y' (ap (λ (m : Draft). m.next) (c.writes y y1.state keeps y1.is)) (ap (λ (m : Draft). m.next) (arm.writes y y2.state keeps y2.is)) written
     (e6 ∙ ap (λ (u : List ℕ). aimed u b.next 11 r.next) (e5 ∙ ap (aimed v5 a.next 10) e3)))
 
-module _ {s : List ℕ} {room : ℕ} {p : Spot} {l v : List ℕ} {t : Look} (h : p.at ≤ length s) (f : p.number ≡ 0) (e : t ≡ look_of s p.at) where
-  pub ending_none : {q : Spot} → (t.kind ≡ 10 → ⊥) → q ≡ word_of s p 114 → Ends s room p q 0 l l v
+module _ {s : List ℕ} {room : ℕ} {p : Reached} {l v : List ℕ} {t : Look} (h : p.at ≤ length s) (f : p.number ≡ 0) (e : t ≡ look_of s p.at) where
+  pub ending_none : {q : Reached} → (t.kind ≡ 10 → ⊥) → q ≡ word_of s p 114 → Ends s room p q 0 l l v
   ending_none {q} k e2 =
       let w = worded SEMICOLON h e2 in
       record {
@@ -169,7 +187,7 @@ module _ {s : List ℕ} {room : ℕ} {p : Spot} {l v : List ℕ} {t : Look} (h :
       pub ending_high : (n : ℕ) {l' : List ℕ} → 31 < u.kind → Reads an_ending s room p (unfit u n) l l' v v
       ending_high n g = no_unit n (λ small. rw (within-above 24 31 u.kind g))
 
-      pub ending_after : {q : Spot} {delay : ℕ} {l' : List ℕ} → 24 ≤ u.kind → u.kind ≤ 31
+      pub ending_after : {q : Reached} {delay : ℕ} {l' : List ℕ} → 24 ≤ u.kind → u.kind ≤ 31
           → Judges 0 0 s (delays (value_of (part s i.start i.end)) (unit_of u.kind)) i.start l l'
           → Lasts l (value_of (part s i.start i.end)) (unit_of u.kind) delay → q ≡ word_of s (past u p.next) 114 → Ends s room p q delay l l' v
       unfolding then_judged token-judged passes-judged
@@ -197,7 +215,7 @@ module _ {s : List ℕ} {room : ℕ} {p : Spot} {l v : List ℕ} {t : Look} (h :
 
   -- ONE STATEMENT
 
-  pub statement_assignment : {m number delay : ℕ} {a b q r : Spot} {l1 l2 l3 v1 v2 : List ℕ} → t.kind ≡ 108
+  pub statement_assignment : {m number delay : ℕ} {a b q r : Reached} {l1 l2 l3 v1 v2 : List ℕ} → t.kind ≡ 108
       → Judges 0 0 s (assigns (name_at s t.start t.end)) t.start l l1 → Numbers s l (name_at s t.start t.end) number
       → a ≡ word_of s (past t p.next) 115 → b ≡ word_of s a 9 → Reads an_expression s room b q l1 l2 v v1 → Ends s room q r delay l2 l3 v1
       → m ≡ following r.next → v2 ≡ placed v1 r.next (9 + 16 * number) delay → Reads a_statement s room p (addressed r m) l l3 v v2
@@ -244,7 +262,7 @@ module _ {s : List ℕ} {room : ℕ} {p : Spot} {l v : List ℕ} {t : Look} (h :
         judges = λ z. absurd (omega (arith, z));
       }
 
-  pub statement_if : {m1 m2 : ℕ} {a q b r : Spot} {l1 l2 l3 l4 v1 v2 v3 v4 v5 v6 v7 : List ℕ} → t.kind ≡ 11 → (room ≡ 0 → ⊥) → Judges 0 0 s (counts 2) t.start l l1
+  pub statement_if : {m1 m2 : ℕ} {a q b r : Reached} {l1 l2 l3 l4 v1 v2 v3 v4 v5 v6 v7 : List ℕ} → t.kind ≡ 11 → (room ≡ 0 → ⊥) → Judges 0 0 s (counts 2) t.start l l1
       → Reads an_expression s (room - 1) (past t p.next) q l1 l2 v v1 → a ≡ word_of s q 12
       → m1 ≡ following a.next → v2 ≡ placed v1 a.next 10 0 → Reads some_statements s (room - 1) (addressed a m1) b l2 l3 v2 v3
       → m2 ≡ following b.next → v4 ≡ placed v3 b.next 11 0 → Reads (closes in_then finish_roles otherwise_draft) s (room - 1) (addressed b m2) r l3 l4 v4 v5
@@ -273,7 +291,7 @@ module _ {s : List ℕ} {room : ℕ} {p : Spot} {l v : List ℕ} {t : Look} (h :
             if_judged d.tree o.tree o2.tree (then_judged (token-judged x (counts 2) j) (then_judged (d.judges fq) (w.judges fa))) i1 i2 (o.judges fb) i3 i4 (o2.judges z) i5 i6;
       }
 
-  pub statement_null : {q : Spot} → t.kind ≡ 14 → q ≡ word_of s (past t p.next) 114 → Reads a_statement s room p q l l v v
+  pub statement_null : {q : Reached} → t.kind ≡ 14 → q ≡ word_of s (past t p.next) 114 → Reads a_statement s room p q l l v v
   statement_null k e1 =
       let n = p.next in
       let x = seen-there h e (λ z. omega arith) in
@@ -291,13 +309,13 @@ module _ {s : List ℕ} {room : ℕ} {p : Spot} {l v : List ℕ} {t : Look} (h :
 
 -- STATEMENTS
 
-pub none-stops : (s : List ℕ) (p : Spot) → (p.number ≡ 0 → ⊥) → Stops s p
+pub none-stops : (s : List ℕ) (p : Reached) → (p.number ≡ 0 → ⊥) → Stops s p
 none-stops s p f = record { none = λ z. absurd (f z) }
 
-pub statements-none : {s : List ℕ} {room : ℕ} {p : Spot} {l v : List ℕ} → p.at ≤ length s → Reads some_statements s room p p l l v v
+pub statements-none : {s : List ℕ} {room : ℕ} {p : Reached} {l v : List ℕ} → p.at ≤ length s → Reads some_statements s room p p l l v v
 statements-none h = record { tree = done; fine = λ z. z; ahead = omega arith; inside = h; moves = λ c ss k u. refl; judges = λ z. none-judged }
 
-pub statements_more : {s : List ℕ} {room : ℕ} {p q r : Spot} {l l1 l2 v v1 v2 : List ℕ} → Reads a_statement s room p q l l1 v v1 → Reads some_statements s room q r l1 l2 v1 v2
+pub statements_more : {s : List ℕ} {room : ℕ} {p q r : Reached} {l l1 l2 v v1 v2 : List ℕ} → Reads a_statement s room p q l l1 v v1 → Reads some_statements s room q r l1 l2 v1 v2
     → Reads some_statements s room p r l l2 v v2
 statements_more a b =
     record {
@@ -318,7 +336,7 @@ none_of false true c d e g = e
 none_of true b c d e g = e
 
 -- only `end` may stand there
-module _ (s : List ℕ) (p : Spot) (stops : Stops s p) where
+module _ (s : List ℕ) (p : Reached) (stops : Stops s p) where
   only_then : (p.number ≡ 0 → (look_of s p.at).kind ≡ 13 → ⊥) → Only s p (statements in_then) END
   only_then g f small o =
       let k = (look_of s p.at).kind in
@@ -335,7 +353,7 @@ module _ (s : List ℕ) (p : Spot) (stops : Stops s p) where
       none_of (eqb k 108) (eqb k 11) (eqb k 14) (eqb k 2 || false) (stops.none f) (rw (ne_eqb k 2 o))
 
 -- `end` `if` `;`, where b is closed by it
-record Closed (s : List ℕ) (p q : Spot) (b : Block) (v : Closing b) : Type 0 where
+record Closed (s : List ℕ) (p q : Reached) (b : Block) (v : Closing b) : Type 0 where
   fine : q.number ≡ 0 → p.number ≡ 0
   ahead : p.at ≤ q.at
   inside : q.at ≤ length s
@@ -343,7 +361,7 @@ record Closed (s : List ℕ) (p q : Spot) (b : Block) (v : Closing b) : Type 0 w
       → verdict s p (statements b ∷ ss) k ≡ verdict s q ss (λ us. k ((done, v), us))
   judges : q.number ≡ 0 → {l v : List ℕ} → Judged 0 0 s p q l l v v (λ r. passes ∷ passes ∷ passes ∷ r) (λ m. m)
 
-closed : {s : List ℕ} {p q : Spot} (b : Block) (v : Closing b) → block_weight b ≡ 1 → next (statements b) (fixed END) ≡ some record { push = closing_if ∷ []; build = λ _. (done, v) }
+closed : {s : List ℕ} {p q : Reached} (b : Block) (v : Closing b) → block_weight b ≡ 1 → next (statements b) (fixed END) ≡ some record { push = closing_if ∷ []; build = λ _. (done, v) }
     → Only s p (statements b) END → p.at ≤ length s → q ≡ end_if_of s p → Closed s p q b v
 closed {s} {p} {q} b v one n o h e =
     let w1 = worded END h refl in
@@ -359,13 +377,13 @@ closed {s} {p} {q} b v one n o h e =
       judges = λ z. let f2 = w3.fine z in then_judged (w1.judges (w2.fine f2)) (then_judged (w2.judges f2) (w3.judges z));
     }
 
-module _ {s : List ℕ} {room : ℕ} {p : Spot} {l v : List ℕ} {t : Look} (h : p.at ≤ length s) (f : p.number ≡ 0) (e : t ≡ look_of s p.at) (stops : Stops s p) where
-  pub finish_end : {q : Spot} → (t.kind ≡ 13 → ⊥) → q ≡ end_if_of s p → Reads (closes in_then finish_roles otherwise_draft) s room p q l l v v
+module _ {s : List ℕ} {room : ℕ} {p : Reached} {l v : List ℕ} {t : Look} (h : p.at ≤ length s) (f : p.number ≡ 0) (e : t ≡ look_of s p.at) (stops : Stops s p) where
+  pub finish_end : {q : Reached} → (t.kind ≡ 13 → ⊥) → q ≡ end_if_of s p → Reads (closes in_then finish_roles otherwise_draft) s room p q l l v v
   finish_end g e1 =
       let c = closed {s = s} {p = p} in_then missing refl refl (only_then s p stops (λ _ z. g (ap (λ (u : Look). u.kind) e ∙ z))) h e1 in
       record { tree = missing; fine = c.fine; ahead = c.ahead; inside = c.inside; moves = λ _ ss k u. c.moves ss k (omega arith); judges = λ z. c.judges z }
 
-  pub finish_else : {q r : Spot} {l' v' : List ℕ} → t.kind ≡ 13 → Reads some_statements s room (past t p.next) q l l' v v' → Stops s q → r ≡ end_if_of s q
+  pub finish_else : {q r : Reached} {l' v' : List ℕ} → t.kind ≡ 13 → Reads some_statements s room (past t p.next) q l l' v v' → Stops s q → r ≡ end_if_of s q
       → Reads (closes in_then finish_roles otherwise_draft) s room p r l l' v v'
   finish_else {q} {r} k d stops2 e1 =
       let x = seen-there h e (λ z. omega arith) in
@@ -388,14 +406,5 @@ module _ {s : List ℕ} {room : ℕ} {p : Spot} {l v : List ℕ} {t : Look} (h :
 pub starter-null : (k : ℕ) → starter k ≡ true → (k ≡ 108 → ⊥) → (k ≡ 11 → ⊥) → k ≡ 14
 starter-null k e a b = eqb-true k 14 (sym (rw (ne_eqb k 108 a, ne_eqb k 11 b)) ∙ e)
 
-pub stops_at : {s : List ℕ} {p : Spot} {n : ℕ} → Stops s p → Stops s (addressed p n)
+pub stops_at : {s : List ℕ} {p : Reached} {n : ℕ} → Stops s p → Stops s (addressed p n)
 stops_at d = record { none = d.none }
-
--- something is read, or refused: the loop ends
-pub reads-less : {w : What} {s : List ℕ} {room : ℕ} {p q : Spot} {l l' v v' : List ℕ} → p.number ≡ 0 → Reads w s room p q l l' v v' → Forward p q
-    → length s - q.at + pick (eqb q.number 0) 1 0 < length s - p.at + pick (eqb p.number 0) 1 0
-reads-less {w} {s} {room} {p} {q} f d g = rw (eq-eqb p.number 0 f) (go (eqb q.number 0) refl)
-  where
-    go : (b : Bool) → eqb q.number 0 ≡ b → length s - q.at + pick b 1 0 < length s - p.at + 1
-    go true e = omega (arith, g.more (eqb-true _ _ e), d.inside)
-    go false e = omega (arith, d.ahead)

@@ -5,79 +5,53 @@ ghost use Rattle.std.specs.Prelude.{◌≡◌, true, List, ℕ, ◌≤◌, lengt
 ghost use Rattle.syntax.proofs.Rows.{in_then};
 ghost use Rattle.emission.specs.Inside.Draft.{otherwise_draft};
 ghost use Rattle.look.specs.Inside.Looks.{look_of};
-ghost use Rattle.reading.specs.Inside.Spots.{Forward, end_if_of, starter, Stops};
+ghost use Rattle.reading.specs.Inside.Spots.{at_spot, reached, Forward, end_if_of, starter, Stops};
 ghost use Rattle.reading.specs.Inside.Reading.{Ready, Reads, a_statement, some_statements, closes, finish_roles};
-ghost use Rattle.statements.specs.Inside.Ending.{Ends};
+ghost use Rattle.statements.specs.Inside.Ending.{ending_reached, ending_delay, Ends};
 
 use emission::{aim, emit};
 use expressions::expression;
 use ledger::{assign, count};
 use look::{Look, peek, unit_of};
-use reading::{Spot, word};
+use reading::{Spot, Unfit, token, word};
 
 // Where reading stands behind an assignment, and its delay.
-#[derive(Clone, Copy)]
+#[derive(Clone, Copy, Debug, PartialEq, Eq)]
 pub struct Ending {
     pub spot: Spot,
     pub delay: u64,
 }
 
 // unit `;`, behind `after`, which stands at p, and the integer i.
-fn unit_end(text: &[u8], ledger: &mut [u64; 328], p: Spot, i: Look) -> Ending
-    requires ready { Ready 0 text.now p ledger.old × (p.number ≡ 0) × ((look_of text.now p.at).kind ≡ 10) }
+fn unit_end(text: &[u8], ledger: &mut [u64; 328], p: Spot, i: Look) -> Result<Ending, Unfit>
+    requires ready { Ready 0 text.now (at_spot p) ledger.old × ((look_of text.now p.at).kind ≡ 10) }
     requires i_value { (i ≡ look_of text.now (look_of text.now p.at).end) × (i.kind ≡ 109) }
-    ensures { (room : ℕ) (words : List ℕ) → Ends text.now room p result.spot result.delay ledger.old ledger.new words }
+    ensures { (room : ℕ) (words : List ℕ) → Ends text.now room (at_spot p) (ending_reached result) (ending_delay result) ledger.old ledger.new words }
 {
     let u = peek(text, i.end);
     if u.kind < Look::FS {
-        let q = Spot {
-            number: 3,
-            at: u.start,
-            next: p.next,
-        };
-        return Ending { spot: q, delay: 0 };
+        return Err(Unfit::NoSentence(u.start));
     }
     if Look::HR < u.kind {
-        let q = Spot {
-            number: 3,
-            at: u.start,
-            next: p.next,
-        };
-        return Ending { spot: q, delay: 0 };
+        return Err(Unfit::NoSentence(u.start));
     }
     let unit = unit_of(u.kind);
-    let delay = ledger::delay(text, ledger, i.start, i.end, unit);
-    let here = Spot {
-        number: 0,
-        at: u.end,
-        next: p.next,
-    };
-    let q = word(text, here, Look::SEMICOLON);
-    Ending { spot: q, delay }
+    let delay = ledger::delay(text, ledger, i, unit);
+    let spot = word(text, p.past(u), Look::SEMICOLON)?;
+    Ok(Ending { spot, delay })
 }
 
 // [`after` integer unit] `;`
-fn delay_end(text: &[u8], ledger: &mut [u64; 328], p: Spot) -> Ending
-    requires { Ready 0 text.now p ledger.old }
-    ensures { (room : ℕ) (words : List ℕ) → Ends text.now room p result.spot result.delay ledger.old ledger.new words }
+fn delay_end(text: &[u8], ledger: &mut [u64; 328], p: Spot) -> Result<Ending, Unfit>
+    requires { Ready 0 text.now (at_spot p) ledger.old }
+    ensures { (room : ℕ) (words : List ℕ) → Ends text.now room (at_spot p) (ending_reached result) (ending_delay result) ledger.old ledger.new words }
 {
-    if p.number != 0 {
-        return Ending { spot: p, delay: 0 };
-    }
     let t = peek(text, p.at);
     if t.kind != Look::AFTER {
-        let q = word(text, p, Look::SEMICOLON);
-        return Ending { spot: q, delay: 0 };
+        let spot = word(text, p, Look::SEMICOLON)?;
+        return Ok(Ending { spot, delay: 0 });
     }
-    let i = peek(text, t.end);
-    if i.kind != Look::INTEGER {
-        let q = Spot {
-            number: 3,
-            at: i.start,
-            next: p.next,
-        };
-        return Ending { spot: q, delay: 0 };
-    }
+    let i = token(text, t.end, Look::INTEGER)?;
     unit_end(text, ledger, p, i)
 }
 
@@ -89,37 +63,30 @@ fn assignment(
     p: Spot,
     t: Look,
     room: usize,
-) -> Spot
-    requires ready { Ready 0 text.now p ledger.old }
-    requires number_value { (p.number ≡ 0) × (t ≡ look_of text.now p.at) × (t.kind ≡ 108) }
-    ensures { Reads a_statement text.now room p result ledger.old ledger.new table.old table.new × Forward p result }
+) -> Result<Spot, Unfit>
+    requires ready { Ready 0 text.now (at_spot p) ledger.old }
+    requires target { (t ≡ look_of text.now p.at) × (t.kind ≡ 108) }
+    ensures { Reads a_statement text.now room (at_spot p) (reached result) ledger.old ledger.new table.old table.new × Forward (at_spot p) (reached result) }
 {
-    let k = assign(text, ledger, t.start, t.end);
-    let here = Spot {
-        number: 0,
-        at: t.end,
-        next: p.next,
-    };
-    let a = word(text, here, Look::ARROW);
-    let b = word(text, a, Look::TRANSPORT);
-    let e = expression(text, ledger, table, b, room);
-    let d = delay_end(text, ledger, e);
-    let q = d.spot;
-    let n = emit(table, q.next, (9 + 16 * k) as u64, d.delay);
-    Spot {
-        number: q.number,
-        at: q.at,
-        next: n,
-    }
+    let k = assign(text, ledger, t);
+    let a = word(text, p.past(t), Look::ARROW)?;
+    let b = word(text, a, Look::TRANSPORT)?;
+    let e = expression(text, ledger, table, b, room)?;
+    let d = delay_end(text, ledger, e)?;
+    let next = emit(table, d.spot.next, (9 + 16 * k) as u64, d.delay);
+    Ok(Spot {
+        at: d.spot.at,
+        next,
+    })
 }
 
 // `end` `if` `;`
-fn end_if(text: &[u8], p: Spot) -> Spot
+fn end_if(text: &[u8], p: Spot) -> Result<Spot, Unfit>
     requires { p.at ≤ length text.now }
-    ensures { result ≡ end_if_of text.now p }
+    ensures { reached result ≡ end_if_of text.now (at_spot p) }
 {
-    let a = word(text, p, Look::END);
-    let b = word(text, a, Look::IF);
+    let a = word(text, p, Look::END)?;
+    let b = word(text, a, Look::IF)?;
     word(text, b, Look::SEMICOLON)
 }
 
@@ -127,33 +94,26 @@ fn end_if(text: &[u8], p: Spot) -> Spot
 fn starts(kind: usize) -> bool
     ensures { result ≡ starter kind }
 {
-    match kind {
-        108 => true,
-        11 => true,
-        14 => true,
-        _ => false,
-    }
+    kind == Look::NAME || kind == Look::IF || kind == Look::NULL
 }
 
 // [`else` {statement}] `end` `if` `;`
 #[cycle(conditional_finish_statement_statements)]
-fn finish(text: &[u8], ledger: &mut [u64; 328], table: &mut [u64], p: Spot, room: usize) -> Spot
-    requires { Ready 0 text.now p ledger.old × Stops text.now p }
-    ensures { Reads (closes in_then finish_roles otherwise_draft) text.now room p result ledger.old ledger.new table.old table.new }
+fn finish(
+    text: &[u8],
+    ledger: &mut [u64; 328],
+    table: &mut [u64],
+    p: Spot,
+    room: usize,
+) -> Result<Spot, Unfit>
+    requires { Ready 0 text.now (at_spot p) ledger.old × Stops text.now (at_spot p) }
+    ensures { Reads (closes in_then finish_roles otherwise_draft) text.now room (at_spot p) (reached result) ledger.old ledger.new table.old table.new }
 {
-    if p.number != 0 {
-        return p;
-    }
     let t = peek(text, p.at);
     if t.kind != Look::ELSE {
         return end_if(text, p);
     }
-    let here = Spot {
-        number: 0,
-        at: t.end,
-        next: p.next,
-    };
-    let q = statements(text, ledger, table, here, room);
+    let q = statements(text, ledger, table, p.past(t), room)?;
     end_if(text, q)
 }
 
@@ -166,42 +126,31 @@ fn conditional(
     p: Spot,
     t: Look,
     room: usize,
-) -> Spot
-    requires { Ready 0 text.now p ledger.old × (p.number ≡ 0) × (t ≡ look_of text.now p.at) × (t.kind ≡ 11) }
-    ensures { Reads a_statement text.now room p result ledger.old ledger.new table.old table.new × Forward p result }
+) -> Result<Spot, Unfit>
+    requires { Ready 0 text.now (at_spot p) ledger.old × (t ≡ look_of text.now p.at) × (t.kind ≡ 11) }
+    ensures { Reads a_statement text.now room (at_spot p) (reached result) ledger.old ledger.new table.old table.new × Forward (at_spot p) (reached result) }
 {
     if room == 0 {
-        return Spot {
-            number: 4,
-            at: t.start,
-            next: p.next,
-        };
+        return Err(Unfit::TooDeep(t.start));
     }
     count(ledger, 2, t.start);
-    let here = Spot {
-        number: 0,
-        at: t.end,
-        next: p.next,
-    };
-    let e = expression(text, ledger, table, here, room - 1);
-    let a = word(text, e, Look::THEN);
+    let e = expression(text, ledger, table, p.past(t), room - 1)?;
+    let a = word(text, e, Look::THEN)?;
     let first = emit(table, a.next, 10, 0);
     let inside = Spot {
-        number: a.number,
         at: a.at,
         next: first,
     };
-    let b = statements(text, ledger, table, inside, room - 1);
+    let b = statements(text, ledger, table, inside, room - 1)?;
     let second = emit(table, b.next, 11, 0);
     let between = Spot {
-        number: b.number,
         at: b.at,
         next: second,
     };
-    let q = finish(text, ledger, table, between, room - 1);
+    let q = finish(text, ledger, table, between, room - 1)?;
     aim(table, a.next, 10, second);
     aim(table, b.next, 11, q.next);
-    q
+    Ok(q)
 }
 
 // One statement, which begins with the next token.
@@ -213,9 +162,9 @@ fn statement(
     p: Spot,
     t: Look,
     room: usize,
-) -> Spot
-    requires { Ready 0 text.now p ledger.old × (p.number ≡ 0) × (t ≡ look_of text.now p.at) × (starter t.kind ≡ true) }
-    ensures { Reads a_statement text.now room p result ledger.old ledger.new table.old table.new × Forward p result }
+) -> Result<Spot, Unfit>
+    requires { Ready 0 text.now (at_spot p) ledger.old × (t ≡ look_of text.now p.at) × (starter t.kind ≡ true) }
+    ensures { Reads a_statement text.now room (at_spot p) (reached result) ledger.old ledger.new table.old table.new × Forward (at_spot p) (reached result) }
 {
     if t.kind == Look::NAME {
         return assignment(text, ledger, table, p, t, room);
@@ -223,12 +172,7 @@ fn statement(
     if t.kind == Look::IF {
         return conditional(text, ledger, table, p, t, room);
     }
-    let here = Spot {
-        number: 0,
-        at: t.end,
-        next: p.next,
-    };
-    word(text, here, Look::SEMICOLON)
+    word(text, p.past(t), Look::SEMICOLON)
 }
 
 // {statement}, up to a token that begins none.
@@ -239,17 +183,16 @@ pub fn statements(
     table: &mut [u64],
     first: Spot,
     room: usize,
-) -> Spot
-    requires { Ready 0 text.now first ledger.old }
-    ensures { Reads some_statements text.now room first result ledger.old ledger.new table.old table.new × Stops text.now result }
+) -> Result<Spot, Unfit>
+    requires { Ready 0 text.now (at_spot first) ledger.old }
+    ensures { Reads some_statements text.now room (at_spot first) (reached result) ledger.old ledger.new table.old table.new × Stops text.now (reached result) }
 {
     let mut p = first;
-    while p.number == 0 {
+    loop {
         let t = peek(text, p.at);
         if !starts(t.kind) {
-            return p;
+            return Ok(p);
         }
-        p = statement(text, ledger, table, p, t, room);
+        p = statement(text, ledger, table, p, t, room)?;
     }
-    p
 }

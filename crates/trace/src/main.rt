@@ -3,158 +3,97 @@
 
 mod say;
 
-ghost use Rattle.std.specs.Prelude.{◌≡◌, false, ◌≤◌, IfOk, OnErr, length};
+ghost use Rattle.std.specs.Prelude.{◌≤◌, length};
 ghost use Rattle.layout.specs.TableWords.{FitTableWords};
 ghost use Rattle.cells.specs.Cells.{FitFor};
 ghost use Rattle.machine.specs.Inside.Steps.{signals_of};
-ghost use Rattle.machine.specs.Inside.Relays.{Relayed};
+ghost use Rattle.machine.specs.Inside.Works.{Works};
 
-use heading::{Headed, header};
+use heading::header;
+use machine::Machine;
+use player::Gathered;
 use program::{read_full, stop_words};
-use reader::{Tabled, read};
+use reader::read;
+use refusal::Reason;
 use session::{Answer, begin, forward};
 use std::io;
-use stop::Stop;
 
-// How many bytes of lines are gathered, and whether the advance was the last.
-#[derive(Clone, Copy)]
-struct Told {
-    count: usize,
-    last: bool,
-}
-
-// One advance, and its line behind the first so many bytes.
-fn advance(
-    rt: &impl Print,
-    cells: &mut [u64; 1152],
-    table: &[u64],
-    relays: &[u64; 256],
-    stop: u64,
-    out: &mut [u8],
-    lines: &mut [u8],
-    count: usize,
-) -> io::Result<Told>
-    requires fit_table_words { FitTableWords table.now }
-    requires fit_for { FitFor (signals_of table.now) cells.old }
-    requires stop_bound { stop ≤ 1000000000000000000 }
-    requires out_len { length out.old ≡ 4096 }
-    requires count_in_bounds { count ≤ length lines.old }
-    requires relayed { Relayed table.now relays.now }
-    ensures goes_on { IfOk result (λ told. told.last ≡ false → FitFor (signals_of table.now) cells.new) }
-    ensures err { OnErr result (length lines.new ≡ length lines.old) }
-    ensures lines_in_bounds { IfOk result (λ told. told.count ≤ length lines.new) }
-{
-    match forward(cells, table, &table[..0], relays, stop, out) {
-        Answer::Moves {
-            bytes,
-            time,
-            cycles,
-            steps,
-        } => Ok(Told {
-            count: say::moved(lines, count, b"advance", bytes, time, cycles, steps),
-            last: false,
-        }),
-        Answer::Refused(number) => {
-            say::flush(rt, lines, count)?;
-            say::refused(rt, b"advance", number, 0)?;
-            Ok(Told {
-                count: 0,
-                last: true,
-            })
-        }
-        Answer::Quiet => Ok(Told {
-            count: say::put(lines, count, b"advance quiet bytes 0\n"),
-            last: true,
-        }),
-        Answer::StopReached => Ok(Told {
-            count: say::put(lines, count, b"advance stop reached bytes 0\n"),
-            last: true,
-        }),
-    }
-}
-
-// Advances up to the last. A proved loop has to end, so it counts its turns down, from a number that no run uses up.
+// Advances up to the last, with a line for each. A proved loop has to end: this one has more turns than any run takes.
 fn go_on(
     rt: &impl Print,
     cells: &mut [u64; 1152],
-    table: &[u64],
-    relays: &[u64; 256],
+    machine: &Machine,
     stop: u64,
     out: &mut [u8],
-    lines: &mut [u8],
-    first: usize,
+    lines: &mut Gathered,
 ) -> io::Result<()>
-    requires fit_table_words { FitTableWords table.now }
-    requires fit_for { FitFor (signals_of table.now) cells.old }
+    requires works { Works machine.now.table.now machine.now.plan.now machine.now.relays.now }
+    requires fit_for { FitFor (signals_of machine.now.table.now) cells.old }
     requires stop_bound { stop ≤ 1000000000000000000 }
-    requires out_len { length out.old ≡ 4096 }
-    requires lines_len { length lines.old ≡ 36864 }
-    requires first_in_bounds { first ≤ length lines.old }
-    requires relayed { Relayed table.now relays.now }
+    requires out_in_bounds { 4096 ≤ length out.old }
 {
-    let mut count = first;
-    let mut turns = u64::MAX;
-    while 0 < turns {
-        turns -= 1;
-        if 32768 < count {
-            say::flush(rt, lines, count)?;
-            count = 0;
-        }
-        let told = advance(rt, cells, table, relays, stop, out, lines, count)?;
-        count = told.count;
-        if told.last {
-            return say::flush(rt, lines, count);
+    for _ in 0..u64::MAX {
+        lines.make_room(rt)?;
+        match forward(cells, machine, stop, out) {
+            Ok(Answer::Moved(moved)) => say::moved(lines, b"advance", moved),
+            Ok(Answer::Quiet) => {
+                say::put(lines, b"advance quiet bytes 0\n");
+                return lines.flush(rt);
+            }
+            Ok(Answer::StopReached) => {
+                say::put(lines, b"advance stop reached bytes 0\n");
+                return lines.flush(rt);
+            }
+            Err(reason) => {
+                lines.flush(rt)?;
+                return say::refused(rt, b"advance", reason.into());
+            }
         }
     }
     Ok(())
 }
 
-// The start and the advances of a table whose relays are listed; the lines go behind the first so many bytes.
-fn run_listed(
+// The start and the advances of a machine.
+fn run_machine(
     rt: &impl Print,
-    table: &[u64],
-    relays: &[u64; 256],
+    machine: &Machine,
     stop: u64,
-    lines: &mut [u8],
-    count: usize,
+    lines: &mut Gathered,
 ) -> io::Result<()>
-    requires fit_table_words { FitTableWords table.now }
+    requires works { Works machine.now.table.now machine.now.plan.now machine.now.relays.now }
     requires stop_bound { stop ≤ 1000000000000000000 }
-    requires lines_len { length lines.old ≡ 36864 }
-    requires count_in_bounds { count ≤ length lines.old }
-    requires relayed { Relayed table.now relays.now }
 {
     let mut cells = [0u64; 1152];
     let mut out = [0u8; 4096];
-    match begin(&mut cells, table, &table[..0], relays, &mut out) {
-        Answer::Moves {
-            bytes,
-            time,
-            cycles,
-            steps,
-        } => {
-            let first = say::moved(lines, count, b"start", bytes, time, cycles, steps);
-            go_on(rt, &mut cells, table, relays, stop, &mut out, lines, first)
+    match begin(&mut cells, machine, &mut out) {
+        Ok(moved) => {
+            say::moved(lines, b"start", moved);
+            go_on(rt, &mut cells, machine, stop, &mut out, lines)
         }
-        Answer::Refused(number) => {
-            say::flush(rt, lines, count)?;
-            say::refused(rt, b"start", number, 0)
+        Err(reason) => {
+            lines.flush(rt)?;
+            say::refused(rt, b"start", reason.into())
         }
-        Answer::Quiet => Ok(()),
-        Answer::StopReached => Ok(()),
     }
 }
 
 // The start and the advances.
-fn run(rt: &impl Print, table: &[u64], stop: u64, lines: &mut [u8], count: usize) -> io::Result<()>
+fn run(rt: &impl Print, table: &[u64], stop: u64, lines: &mut Gathered) -> io::Result<()>
     requires fit_table_words { FitTableWords table.now }
     requires stop_bound { stop ≤ 1000000000000000000 }
-    requires lines_len { length lines.old ≡ 36864 }
-    requires count_in_bounds { count ≤ length lines.old }
 {
     let mut relays = [0u64; 256];
     plan::list_relays(table, &mut relays);
-    run_listed(rt, table, &relays, stop, lines, count)
+    run_machine(
+        rt,
+        &Machine {
+            table,
+            plan: &[],
+            relays: &relays,
+        },
+        stop,
+        lines,
+    )
 }
 
 // The calls of an accepted text, whose header has so many bytes.
@@ -163,12 +102,12 @@ fn translate(rt: &impl Print, text: &[u8], stop: u64, count: usize) -> io::Resul
 {
     let mut table = [0u64; 8387];
     match read(text, &mut table) {
-        Tabled::Refused { number, place } => say::refused(rt, b"header", number, place),
-        Tabled::Written => {
-            let mut lines = [0u8; 36864];
-            let first = say::header(&mut lines, count);
-            run(rt, &table, stop, &mut lines, first)
+        Ok(()) => {
+            let mut lines = Gathered::new();
+            say::header(&mut lines, count);
+            run(rt, &table, stop, &mut lines)
         }
+        Err(refusal) => say::refused(rt, b"header", refusal),
     }
 }
 
@@ -177,15 +116,15 @@ fn show(rt: &impl Print, text: &[u8], stop: u64) -> io::Result<()>
 {
     let mut out = [0u8; 4096];
     match header(text, &mut out) {
-        Headed::Refused { number, place } => say::refused(rt, b"header", number, place),
-        Headed::Written(count) => translate(rt, text, stop, count),
+        Ok(count) => translate(rt, text, stop, count),
+        Err(refusal) => say::refused(rt, b"header", refusal),
     }
 }
 
 fn main(rt: HostRuntime) -> io::Result<()> {
     match stop_words(&rt) {
-        Stop::Refused => say::refused(&rt, b"stop words", 12, 0),
-        Stop::At(stop) => {
+        Err(reason) => say::refused(&rt, b"stop words", reason.into()),
+        Ok(stop) => {
             let mut text = [0u8; 60001];
             let n = read_full(&mut rt.stdin(), &mut text)?;
             show(&rt, &text[..n], stop)

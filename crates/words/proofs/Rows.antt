@@ -1,21 +1,25 @@
 -- The search by numbers finds the row that a word stands in; the rows are distinct words.
 -- Assumes nothing.
 use mathlib.Core.Path.{◌≡◌, refl, sym, ap, ◌∙◌}
-use mathlib.Core.Bool.{Bool, true, false}
-use mathlib.Core.List.{List, [], ◌∷◌, map}
+use mathlib.Core.Bool.{Bool, true, false, cond}
+use mathlib.Core.List.{List, [], ◌∷◌, map, reverse}
 use Prim.Native.Nat.{ℕ, ◌+◌, ◌-◌, ◌*◌, ◌^◌, ◌<◌, ◌≤◌}
 use native.Mathlib.Omega.{arith}
 use native.Mathlib.Nat.{pow-suc, pow-le-pow_right, le_refl}
 use borrow.Author.Tests.{leb-true, eqb-true, eqb-false, eq-eqb, ne_eqb}
 use lib.Dec.{T, leb, eqb}
 use lib.ListN.{length, drop, get_or, drop_of_length-le, length-drop, length-map}
+use Rattle.std.specs.Prelude.{Some, None, position}
+use Rattle.std.specs.List.{position_from}
+use Rattle.std.proofs.lemmas.Iterator.Adapters.{position_from-zero}
+use Rattle.std.proofs.lemmas.List.{length-reverse, get_or-reverse}
 use Rattle.laws.specs.Pick.{pick, within, same_list}
 use Rattle.laws.specs.Text.{bytes}
 use Rattle.laws.proofs.Lists.{uncons, same_equal}
 use Rattle.laws.proofs.Ranges.{Ranged, ranged, below, inside, above}
 use Rattle.laws.proofs.Table.{every, first_passes, others_pass}
 use Rattle.words.specs.Vocabulary.{lower_of, lower, Row, subset, others, vocabulary, row_from, row_of}
-use Rattle.words.specs.Inside.Codes.{letter_of, code_of, row_code, codes, find_from}
+use Rattle.words.specs.Inside.Codes.{letter_of, code_of, row_code, codes}
 use Rattle.words.proofs.Letters.{digit_some, digit-below, lower-digit, digit-lower}
 
 -- THE NUMBER OF A WORD
@@ -25,18 +29,23 @@ unfolding code_of
 code_below [] = omega arith
 code_below (b ∷ s) = let h = code_below s in let d = digit-below b in rw pow-suc (omega arith)
 
--- one letter more, going back: the number of what is left of a word from place i on
-pub code-back : (s : List ℕ) (i code d : ℕ) → 0 < i → i ≤ length s → code ≡ code_of (drop i s) → d ≡ letter_of (get_or s (i - 1) 0)
-    → code * 28 + d ≡ code_of (drop (i - 1) s)
+-- one letter more, going back: the number of what is left of a word, of which k bytes have been read from its end
+pub code-back : (s : List ℕ) (k code byte : ℕ) → code ≡ code_of (drop (length s - k) s) → (k < length (reverse s)) × (byte ≡ get_or (reverse s) k byte)
+    → code * 28 + letter_of byte ≡ code_of (drop (length s - (k + 1)) s)
 unfolding code_of
-code-back s i code d p q e f = let h : i ≡ i - 1 + 1 = omega arith in rw (e, f, uncons s (i - 1) 0 (omega arith), ← h)
+code-back s k code byte e turn =
+    let h : k < length s = rw length-reverse at turn.0 in
+    let at : length s - 1 - k ≡ length s - (k + 1) = omega arith in
+    let next : length s - (k + 1) + 1 ≡ length s - k = omega arith in
+    let is : byte ≡ get_or s (length s - (k + 1)) byte = turn.1 ∙ get_or-reverse s k byte h ∙ ap (λ i. get_or s i byte) at in
+    rw (uncons s (length s - (k + 1)) byte (omega arith), next, ← is, ← e)
 
 pub code-none : (s : List ℕ) → 0 ≡ code_of (drop (length s) s)
 unfolding code_of
 code-none s = rw (drop_of_length-le s (le_refl (length s)))
 
-pub code-whole : (s : List ℕ) (i code : ℕ) → i ≤ 0 → code ≡ code_of (drop i s) → code ≡ code_of s
-code-whole s i code h e = let z : i ≡ 0 = omega arith in rw z at e
+pub code-whole : (s : List ℕ) (k code : ℕ) → code ≡ code_of (drop (length s - k) s) → k ≡ length (reverse s) → code ≡ code_of s
+code-whole s k code e h = let z : length s - k ≡ 0 = omega (arith, length-reverse s) in rw z at e
 
 pub code_fits : (s : List ℕ) (i : ℕ) → length s ≤ 13 → code_of (drop i s) < 28 ^ 13
 code_fits s i h =
@@ -108,49 +117,39 @@ proper-short r e = leb-true _ _ (go (small (bytes r.spelling)) (leb (length (byt
     go true b e = e
     go false b e = let z : ◌≡◌ {A = ℕ} 0 1 = cc in absurd (omega arith)
 
-found : (k : ℕ) (word : List ℕ) (rows : List Row) → T (every proper rows) → find_from k (code_of word) (map row_code rows) ≡ row_from k (lower word) rows
-unfolding find_from row_from
+found : (k : ℕ) (word : List ℕ) (rows : List Row) → T (every proper rows) → position_from (λ c. eqb c (code_of word)) k (map row_code rows) ≡ row_from k (lower word) rows
+unfolding row_from
 found k word [] t = refl
 found k word (r ∷ rows) t =
     rw (
       coded word (bytes r.spelling) (proper-small r (first_passes (proper r) (every proper rows) t)),
       found (k + 1) word rows (others_pass (proper r) (every proper rows) t),
-    )
+    ) (go (eqb (row_code r) (code_of word)))
+  where
+    go : (t : Bool) → cond t (Some k) (row_from (k + 1) (lower word) rows) ≡ pick t (Some k) (row_from (k + 1) (lower word) rows)
+    go true = refl
+    go false = refl
 
 -- the row by the word's number is the row by the word
-pub row_by_code : (word : List ℕ) → find_from 0 (code_of word) codes ≡ row_of word
+pub row_by_code : (word : List ℕ) → position (λ c. eqb c (code_of word)) codes ≡ row_of word
 unfolding codes row_of
-row_by_code word = found 0 word vocabulary all_proper
+row_by_code word = position_from-zero (λ c. eqb c (code_of word)) codes ∙ found 0 word vocabulary all_proper
 
 -- a word of more than 13 bytes stands in no row
-missed : (k : ℕ) (word : List ℕ) (rows : List Row) → T (every proper rows) → 13 < length word → k + length rows ≡ row_from k (lower word) rows
+missed : (k : ℕ) (word : List ℕ) (rows : List Row) → T (every proper rows) → 13 < length word → None ≡ row_from k (lower word) rows
 unfolding row_from
-missed k word [] t h = omega arith
+missed k word [] t h = refl
 missed k word (r ∷ rows) t h =
     go (same_list (lower word) (bytes r.spelling)) refl (missed (k + 1) word rows (others_pass (proper r) (every proper rows) t) h)
   where
-    go : (p : Bool) → same_list (lower word) (bytes r.spelling) ≡ p → k + 1 + length rows ≡ row_from (k + 1) (lower word) rows
-        → k + length (r ∷ rows) ≡ pick p k (row_from (k + 1) (lower word) rows)
+    go : (p : Bool) → same_list (lower word) (bytes r.spelling) ≡ p → None ≡ row_from (k + 1) (lower word) rows
+        → None ≡ pick p (Some k) (row_from (k + 1) (lower word) rows)
     go true p ih =
         let e = ap length (same_equal (lower word) (bytes r.spelling) p) in
         let l = proper-short r (first_passes (proper r) (every proper rows) t) in
         absurd (omega (arith, length-map word lower_of))
-    go false p ih = omega arith
+    go false p ih = ih
 
-pub row_of_long : (word : List ℕ) → 13 < length word → 108 ≡ row_of word
-unfolding row_of subset others vocabulary
+pub row_of_long : (word : List ℕ) → 13 < length word → None ≡ row_of word
+unfolding row_of
 row_of_long word h = missed 0 word vocabulary all_proper h
-
--- the search among numbers, from place k on
-module _ (k x : ℕ) (cs : List ℕ) where
-  pub find_hit : k < length cs → get_or cs k 0 ≡ x → k ≡ find_from k x (drop k cs)
-  unfolding find_from
-  find_hit h e = rw (uncons cs k 0 h, eq-eqb _ _ e)
-
-  pub find_miss : k < length cs → (get_or cs k 0 ≡ x → ⊥) → find_from (k + 1) x (drop (k + 1) cs) ≡ find_from k x (drop k cs)
-  unfolding find_from
-  find_miss h e = rw (uncons cs k 0 h, ne_eqb _ _ e)
-
-  pub find_none : length cs ≤ k → k ≡ find_from k x (drop k cs)
-  unfolding find_from
-  find_none h = rw (drop_of_length-le cs h)

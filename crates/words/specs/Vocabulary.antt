@@ -1,6 +1,6 @@
 -- The vocabulary: the words that are no names, and what each of them is. Case does not count.
 -- Assumes nothing: these are definitions.
-use Rattle.std.specs.Prelude.{ℕ, ◌+◌, ◌≡◌, refl, Bool, true, false, List, [], ◌∷◌, ◌++◌, map, get_or, length}
+use Rattle.std.specs.Prelude.{ℕ, ◌+◌, ◌≡◌, refl, Bool, true, false, List, [], ◌∷◌, ◌++◌, map, get_or, length, Option, Some, None}
 use Prim.Native.String.{String}
 use Rattle.laws.specs.Pick.{pick, within, same_list}
 use Rattle.laws.specs.Text.{bytes}
@@ -56,17 +56,18 @@ others =
 unfoldable pub vocabulary : List Row
 vocabulary = subset ++ map (λ word. row word foreign) others
 
--- the number of the first row that a word stands in, counted from k; past the last where it stands in none
-unfoldable pub row_from : ℕ → List ℕ → List Row → ℕ
-row_from k word [] = k
-row_from k word (r ∷ rows) = let later = row_from (k + 1) word rows in pick (same_list word (bytes r.spelling)) k later
+-- the number of the first row that a word stands in, counted from k; none where it stands in no row
+unfoldable pub row_from : ℕ → List ℕ → List Row → Option ℕ
+row_from k word [] = None
+row_from k word (r ∷ rows) = let later = row_from (k + 1) word rows in pick (same_list word (bytes r.spelling)) (Some k) later
 
-unfoldable pub row_of : List ℕ → ℕ
+unfoldable pub row_of : List ℕ → Option ℕ
 row_of word = row_from 0 (lower word) vocabulary
 
 -- the token of a row; a word that stands in no row is a name
-unfoldable pub token_at : ℕ → Name → Token
-token_at number word = get_or (map (λ r. r.token) vocabulary) number (name word)
+unfoldable pub token_at : Option ℕ → Name → Token
+token_at (Some number) word = get_or (map (λ r. r.token) vocabulary) number (name word)
+token_at None word = name word
 
 unfoldable pub word_token : List ℕ → Token
 word_token word = token_at (row_of word) (lower word)

@@ -3,48 +3,32 @@ ghost use Rattle.std.specs.Prelude.{◌≡◌, ◌<◌};
 ghost use Rattle.words.specs.Unit.{delay_of};
 ghost use Rattle.words.specs.Integer.{digit_of, value_of, amount_of};
 
-use crate::unit::{Delay, TimeUnit};
-
-// A value of at most 10^18, or one above it.
-#[derive(Clone, Copy)]
-pub enum Amount {
-    Small(u64),
-    Large,
-}
+use crate::unit::TimeUnit;
 
 // The value of a digit.
 pub fn digit(byte: u8) -> u64
     ensures { (result ≡ digit_of byte) × (result < 256) }
 {
-    if byte < 48 {
-        return 0;
-    }
-    (byte - 48) as u64
+    u64::from(byte.saturating_sub(b'0'))
 }
 
-// The value of a run of digits. It stops at the first digit that takes it above 10^18, so it never wraps.
-pub fn amount_of(run: &[u8]) -> Amount
+// The value of a run of digits, where it is at most 10^18. It stops at the first digit that takes it above, so it never wraps.
+pub fn amount_of(run: &[u8]) -> Option<u64>
     ensures { result ≡ amount_of run.now }
 {
     let mut sum: u64 = 0;
-    let mut i = 0;
-    while i < run.len() {
-        let d = digit(run[i]);
-        sum = sum * 10 + d;
+    for byte in run {
+        sum = sum * 10 + digit(*byte);
         if sum > TimeUnit::LONGEST {
-            return Amount::Large;
+            return None;
         }
-        i += 1;
     }
-    Amount::Small(sum)
+    Some(sum)
 }
 
 // So many of a unit, in femtoseconds, from the digits of the amount.
-pub fn time_of(digits: &[u8], unit: TimeUnit) -> Delay
+pub fn time_of(digits: &[u8], unit: TimeUnit) -> Option<u64>
     ensures { result ≡ delay_of (value_of digits.now) unit }
 {
-    match amount_of(digits) {
-        Amount::Small(amount) => unit.femtoseconds(amount),
-        Amount::Large => Delay::TooLong,
-    }
+    unit.femtoseconds(amount_of(digits)?)
 }

@@ -1,8 +1,8 @@
 // Units of time, each a fixed number of femtoseconds.
 ghost use Rattle.std.specs.Prelude.{◌≡◌, ◌<◌};
-ghost use Rattle.words.specs.Unit.{femtoseconds_of, delay_of};
+ghost use Rattle.words.specs.Unit.{spelling_of, femtoseconds_of, delay_of};
 
-#[derive(Clone, Copy)]
+#[derive(Clone, Copy, Debug, PartialEq, Eq, Hash)]
 pub enum TimeUnit {
     Fs,
     Ps,
@@ -12,13 +12,6 @@ pub enum TimeUnit {
     Sec,
     Min,
     Hr,
-}
-
-// A time in femtoseconds, or one that is above the longest.
-#[derive(Clone, Copy)]
-pub enum Delay {
-    Femtoseconds(u64),
-    TooLong,
 }
 
 impl TimeUnit {
@@ -40,6 +33,33 @@ impl TimeUnit {
     // The longest delay and the latest stop.
     pub const LONGEST: u64 = 1_000_000_000_000_000_000;
 
+    pub const ALL: [TimeUnit; 8] = [
+        TimeUnit::Fs,
+        TimeUnit::Ps,
+        TimeUnit::Ns,
+        TimeUnit::Us,
+        TimeUnit::Ms,
+        TimeUnit::Sec,
+        TimeUnit::Min,
+        TimeUnit::Hr,
+    ];
+
+    // The word of the vocabulary that the unit is.
+    pub fn spelling(self) -> &'static [u8]
+        ensures { result.now ≡ spelling_of self }
+    {
+        match self {
+            TimeUnit::Fs => b"fs",
+            TimeUnit::Ps => b"ps",
+            TimeUnit::Ns => b"ns",
+            TimeUnit::Us => b"us",
+            TimeUnit::Ms => b"ms",
+            TimeUnit::Sec => b"sec",
+            TimeUnit::Min => b"min",
+            TimeUnit::Hr => b"hr",
+        }
+    }
+
     // How many femtoseconds the unit has.
     pub fn size(self) -> u64
         ensures { (result ≡ femtoseconds_of self) × (0 < result) }
@@ -56,15 +76,15 @@ impl TimeUnit {
         }
     }
 
-    // So many of this unit, in femtoseconds.
-    pub fn femtoseconds(self, amount: u64) -> Delay
+    // So many of this unit, in femtoseconds, where that is at most the longest.
+    pub fn femtoseconds(self, amount: u64) -> Option<u64>
         ensures { result ≡ delay_of amount self }
     {
         let size = self.size();
         if amount <= TimeUnit::LONGEST / size {
-            Delay::Femtoseconds(amount * size)
+            Some(amount * size)
         } else {
-            Delay::TooLong
+            None
         }
     }
 }

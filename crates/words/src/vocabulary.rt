@@ -1,10 +1,10 @@
 // Which word of the vocabulary a word is, and when two words are the same: case does not count.
-ghost use Rattle.std.specs.Prelude.{◌≡◌, ◌<◌, ◌≤◌, length};
+ghost use Rattle.std.specs.Prelude.{◌≡◌, ◌<◌, ◌≤◌, length, eqb, position};
 ghost use Rattle.words.specs.Vocabulary.{lower_of, same_word, row_of};
-ghost use Rattle.words.specs.Inside.Codes.{letter_of, code_of, codes, find_from};
+ghost use Rattle.words.specs.Inside.Codes.{letter_of, code_of, codes};
 
 // The rows of the vocabulary, each word as a number: its letters are digits 1 to 26 in base 28, the first the lowest.
-const CODES: [u64; 108] = [
+static CODES: [u64; 108] = [
     442765965, // entity
     541, // is
     3533, // end
@@ -132,66 +132,52 @@ fn code_of(word: &[u8]) -> u64
     ensures { result ≡ code_of word.now }
 {
     let mut code: u64 = 0;
-    let mut i = word.len();
-    while 0 < i {
-        i -= 1;
-        let d = letter(word[i]);
-        code = code * 28 + d;
+    for byte in word.iter().rev() {
+        code = code * 28 + letter(*byte);
     }
     code
 }
 
-// The table is made once: an index of the constant would make it anew at every turn.
-fn find(code: u64) -> usize
-    ensures { result ≡ find_from 0 code codes }
+// The row of a word's number.
+fn find(code: u64) -> Option<usize>
+    ensures { result ≡ position (λ c. eqb c code) codes }
 {
-    let table = CODES;
-    let mut k = 0;
-    while k < 108 {
-        if table[k] == code {
-            return k;
-        }
-        k += 1;
-    }
-    k
+    CODES.iter().position(|row| *row == code)
 }
 
-// The number of the row that a word stands in, 0 to 107; 108 for a name.
-pub fn row_of(word: &[u8]) -> usize
+// The number of the row that a word stands in, 0 to 107; none for a name.
+pub fn row_of(word: &[u8]) -> Option<usize>
     ensures { result ≡ row_of word.now }
 {
     if word.len() > 13 {
-        return 108;
+        None
+    } else {
+        find(code_of(word))
     }
-    find(code_of(word))
 }
 
 // A byte, in lower case where it is a letter.
 pub fn lower(byte: u8) -> u8
     ensures { result ≡ lower_of byte }
 {
-    match byte {
-        b'A'..=b'Z' => byte + 32,
-        _ => byte,
-    }
+    byte.to_ascii_lowercase()
 }
 
-// Two words are the same, up to the case of their letters. Names that are alike mostly differ at their ends, so it goes from the last byte to the first;
-// and most bytes are the same in their case too, so the case is looked at only where they are not.
+// Two bytes are the same, up to the case of a letter. Most bytes are the same in their case too, so the case is looked at only where they are not.
+fn same_byte(one: u8, other: u8) -> bool
+    ensures { result ≡ eqb (lower_of one) (lower_of other) }
+{
+    one == other || lower(one) == lower(other)
+}
+
+// Two words are the same, up to the case of their letters. Names that are alike mostly differ at their ends, so it goes from the last byte to the first.
 pub fn same_word(one: &[u8], other: &[u8]) -> bool
     ensures { result ≡ same_word one.now other.now }
 {
-    if one.len() != other.len() {
-        return false;
-    }
-    let mut i = one.len();
-    while 0 < i {
-        i -= 1;
-        if one[i] != other[i] {
-            if lower(one[i]) != lower(other[i]) {
-                return false;
-            }
-        }
-    }
-    true
+    one.len() == other.len()
+        && one
+            .iter()
+            .rev()
+            .zip(other.iter().rev())
+            .all(|(a, b)| same_byte(*a, *b))
 }

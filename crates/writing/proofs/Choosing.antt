@@ -1,10 +1,11 @@
 -- The lines of the signals whose values differ are those whose bits are set in a word. Assumes nothing.
-use Prim.Native.Nat.{ℕ, zero, suc, ◌+◌, ◌*◌, ◌-◌, ◌/◌, ◌^◌, ◌<◌, ◌≤◌}
+use Prim.Native.Nat.{ℕ, zero, suc, ◌+◌, ◌*◌, ◌-◌, ◌^◌, ◌<◌, ◌≤◌}
 use mathlib.Core.Path.{◌≡◌, refl, ap, sym, subst, ◌∙◌}
 use mathlib.Core.List.{List, [], ◌∷◌, ◌++◌, append-nil, append_assoc}
 use mathlib.Core.Bool.{Bool, true, false}
 use native.Mathlib.Numerals.{add-one}
 use native.Mathlib.Omega.{arith}
+use lib.Bits.{bit_xor}
 use lib.Count.{count_trailing_zeros}
 use lib.ListN.{length, length-append}
 use Rattle.laws.specs.Pick.{pick}
@@ -18,7 +19,8 @@ use Rattle.cells.specs.Cells.{value_of, values}
 use Rattle.cells.specs.Inside.Changes.{Differs}
 use Rattle.cells.proofs.Tabulating.{tabulate_more}
 use Rattle.cells.proofs.Columns.{length-values}
-use Rattle.cells.proofs.Words.{bit-above, Walking, walking_first, walking_last, Stepping, walking_next}
+use Rattle.cells.proofs.Words.{bit-above}
+use Rattle.cells.proofs.Walks.{Walk, walk_first, walk_last, Next, walk_next}
 use Rattle.writing.specs.Inside.Written.{Writes, chosen}
 use Rattle.writing.proofs.Buffers.{writes_both, writes-none}
 
@@ -64,39 +66,46 @@ module _ (word : ℕ) where
         let e : k + suc z ≡ suc (k + z) = omega arith in
         rw e (unset_more (k + z) (h z (omega arith)) ∙ jump z k (λ j l. h j (omega arith)))
 
-    -- the loop: the lines of the chosen among the first k signals are written
+    -- the loop: the lines of the chosen among the first k signals are written, where k is below the places that are left
     module _ (out : List ℕ) (at : ℕ) where
-      pub record Chosen (mid : List ℕ) (place m k : ℕ) : Type 0 where
-        pub walking : Walking word 64 m k
+      pub record Chosen (mid : List ℕ) (place m : ℕ) : Type 0 where
+        pub k : ℕ
+        pub walk : Walk word 64 m k
         pub writes : Writes out at (chosen word 0 (values k cs)) place mid
 
-      pub chosen_first : word < 2 ^ 64 → Chosen out at word 0
+      pub chosen_first : word < 2 ^ 64 → Chosen out at word
       unfolding chosen values tabulate
-      chosen_first l = record { walking = walking_first word 64 l; writes = writes-none out at }
+      chosen_first l = record { k = 0; walk = walk_first word 64 l; writes = writes-none out at }
 
-      module _ (mid : List ℕ) (place m k : ℕ) (c : Chosen mid place m k) where
-        pub chosen-place : place ≤ at + 3 * k
-        chosen-place = omega (arith, c.writes.end, chosen_most 0 (values k cs), length-values k cs)
-
+      module _ (mid : List ℕ) (place m : ℕ) (c : Chosen mid place m) where
         pub chosen_last : m ≡ 0 → Writes out at (chosen word 0 (values 64 cs)) place mid
         chosen_last e =
-            let q : k + (64 - k) ≡ 64 = omega (arith, c.walking.low) in
-            rw (← q, jump (64 - k) k (λ j l. walking_last word 64 m k c.walking e (k + j) (omega arith))) c.writes
+            let q : c.k + (64 - c.k) ≡ 64 = omega (arith, c.walk.low) in
+            rw (← q, jump (64 - c.k) c.k (λ j l. walk_last c.walk e (c.k + j) (omega arith))) c.writes
 
-        module _ (some : 0 < m) where
-          pub step : Stepping word 64 m k (count_trailing_zeros 64 m)
-          step = walking_next word 64 m k c.walking (omega arith) some
+        module _ {signal left : ℕ} (goes : (0 < m) × (signal ≡ count_trailing_zeros 64 m) × (left ≡ bit_xor m (1 * 2 ^ signal))) where
+          pub step : Next word 64 c.k signal left
+          step = walk_next c.walk (omega arith) goes
 
-          pub chosen_more : (r : ℕ) (after : List ℕ) → Writes mid place (shown (k + count_trailing_zeros 64 m) (value_of cs (k + count_trailing_zeros 64 m))) r after
-              → Chosen after r (m / 2 ^ count_trailing_zeros 64 m / 2) (k + count_trailing_zeros 64 m + 1)
-          chosen_more r after w =
-              let z = k + count_trailing_zeros 64 m in
-              record {
-                walking = step.next;
-                writes =
-                    rw (add-one (k + count_trailing_zeros 64 m), set_more (k + count_trailing_zeros 64 m) step.set, jump (count_trailing_zeros 64 m) k step.unset)
-                    (writes_both out at (chosen word 0 (values k cs)) (shown (k + count_trailing_zeros 64 m) (value_of cs (k + count_trailing_zeros 64 m))) place r mid after c.writes w);
-              }
+          up_to : c.k + (signal - c.k) ≡ signal
+          up_to = omega (arith, step.from)
+
+          skipped : chosen word 0 (values signal cs) ≡ chosen word 0 (values c.k cs)
+          skipped =
+              ap (λ n. chosen word 0 (values n cs)) (sym up_to)
+              ∙ jump (signal - c.k) c.k (λ j l. step.unset (c.k + j) (omega arith) (omega arith))
+
+          pub chosen-place : place ≤ at + 3 * signal
+          chosen-place = omega (arith, c.writes.end, chosen_most 0 (values c.k cs), length-values c.k cs, step.from)
+
+          pub chosen_more : (r : ℕ) (after : List ℕ) → Writes mid place (shown signal (value_of cs signal)) r after → Chosen after r left
+          chosen_more r after w = record {
+            k = signal + 1;
+            walk = step.next;
+            writes =
+                rw (add-one signal, set_more signal step.set, skipped)
+                (writes_both out at (chosen word 0 (values c.k cs)) (shown signal (value_of cs signal)) place r mid after c.writes w);
+          }
 
     -- a word of n bits chooses among n signals
     pub chosen-few : (n : ℕ) → n ≤ 64 → word < 2 ^ n → chosen word 0 (values 64 cs) ≡ chosen word 0 (values n cs)
@@ -145,7 +154,8 @@ module _ (n word : ℕ) (before cs : List ℕ) (few : n ≤ 64) (d : Differs n w
   pub advance-written : (t : ℕ) → (word ≡ 0 → ⊥) → advance_bytes t (values n before) (values n cs) ≡ bytes "#" ++ (decimal t ++ (LF ∷ chosen word 0 (values 64 cs)))
   unfolding advance_bytes
   advance-written t ne =
-      let s = walking_next word n word 0 (walking_first word n d.small) few (omega arith) in
+      let s = walk_next (walk_first word n d.small) few (omega arith, refl, refl) in
+      let z : 0 + count_trailing_zeros 64 word ≡ count_trailing_zeros 64 word = omega arith in
       rw (lines, chosen-few word cs n few d.small)
       (head_some t (chosen word 0 (values n cs))
-      (some_line word 0 (values n cs) (count_trailing_zeros 64 word) (omega (arith, s.inside, length-values n cs)) s.set))
+      (some_line word 0 (values n cs) (count_trailing_zeros 64 word) (omega (arith, s.inside, length-values n cs)) (rw z s.set)))

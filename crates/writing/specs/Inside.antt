@@ -1,3 +1,2 @@
 -- Definitions that only contracts inside the library cite. Nobody has to believe them: no exported function's contract names one.
 pub mod Written
-pub mod Block

@@ -4,6 +4,3 @@ use Rattle.cells.proofs.cut.Given as goal
 
 abbrev pub invariant-loop-n : goal.invariant-loop-n
 invariant-loop-n l = Cutting l.initial.cells l.base l.count l.t l.n l.cells
-
-abbrev pub decreases-loop-n : goal.decreases-loop-n
-decreases-loop-n l = l.n

@@ -6,7 +6,7 @@ use Rattle.compassnail.proofs.Numbers.{advance-small, in_c_advance}
 use Rattle.compassnail.proofs.compassnail_advance.Goals as goal
 
 pub returns-then-report-lt3 : goal.returns-then-report-lt3
-returns-then-report-lt3 c = AdvancesInC.short c.if-report-lt3.true
+returns-then-report-lt3 c = rw c.number.ensures (AdvancesInC.short c.if-report-lt3.true)
 
 pub told-requires : goal.told-requires
 told-requires c = record { small = advance-small c.advance-answer.ensures; in_bounds = search rules }

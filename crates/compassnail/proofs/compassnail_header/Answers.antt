@@ -6,13 +6,13 @@ use Rattle.compassnail.proofs.Texts.{header_in_c, refusal_in_c}
 use Rattle.compassnail.proofs.compassnail_header.Goals as goal
 
 pub overflow_mul-result : goal.overflow_mul-result
-overflow_mul-result c = let h = header-small _ _ _ _ c.header.ensures c.in-Written.is in record { fits = omega arith }
+overflow_mul-result c = let h = header-small _ _ _ _ c.header.ensures c.in-Ok.is in record { fits = omega arith }
 
 pub refused_at-requires : goal.refused_at-requires
-refused_at-requires c = let whole = refusal_small _ _ _ _ c.header.ensures c.in-Refused.is in record { number_bound = whole.0; place_bound = whole.1 }
+refused_at-requires c = (refusal_small _ _ _ _ c.header.ensures c.in-Err.is).1
 
-pub returns-in-Written : goal.returns-in-Written
-returns-in-Written c = header_in_c _ _ _ _ c.header.ensures c.in-Written.is
+pub returns-in-Ok : goal.returns-in-Ok
+returns-in-Ok c = header_in_c _ _ _ _ c.header.ensures c.in-Ok.is
 
-pub returns-in-Refused : goal.returns-in-Refused
-returns-in-Refused c = refusal_in_c _ _ _ _ c.header.ensures c.in-Refused.is c.refused_at.ensures
+pub returns-in-Err : goal.returns-in-Err
+returns-in-Err c = refusal_in_c _ _ _ _ c.header.ensures c.in-Err.is c.refused_at.ensures

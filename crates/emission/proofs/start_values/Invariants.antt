@@ -5,7 +5,4 @@ use Rattle.emission.specs.Inside.Draft.{ones}
 use Rattle.emission.proofs.start_values.Given as goal
 
 abbrev pub invariant-loop-k : goal.invariant-loop-k
-invariant-loop-k l = (l.from ≤ l.k) × (l.k - l.from ≤ l.to - l.from) × (l.table ≡ ones l.initial.table (3 + l.from) (l.k - l.from))
-
-abbrev pub decreases-loop-k : goal.decreases-loop-k
-decreases-loop-k l = l.to - l.k
+invariant-loop-k l = (l.k - l.from ≤ l.to - l.from) × (l.table ≡ ones l.initial.table (3 + l.from) (l.k - l.from))

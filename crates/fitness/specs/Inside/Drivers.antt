@@ -1,6 +1,6 @@
--- Which process posts a signal, and the list of the signals' drivers: 0 for none, p + 1 for process p.
+-- Which process posts a signal, and the list of the signals' drivers.
 -- Assumes nothing: these are definitions.
-use Rattle.std.specs.Prelude.{ℕ, suc, ◌≤◌, ◌<◌, ◌≡◌, Bool, true, false, List, length, get_or}
+use Rattle.std.specs.Prelude.{ℕ, suc, ◌≤◌, ◌<◌, ◌≡◌, Bool, true, false, List, Option, Some, None, length, get_or, set}
 use Rattle.table.specs.Instructions.{Instruction, name, literal, negation, binary, assignment, test, skip}
 use Rattle.table.specs.Table.{Table, begins}
 use Rattle.table.specs.Fit.{at}
@@ -25,12 +25,18 @@ pub record Drives (t : Table) (p k : ℕ) : Type 0 where
 abbrev pub Alone : Table → ℕ → Type 0
 Alone t n = (p q k : ℕ) → p < n → q < n → Drives t p k → Drives t q k → p ≡ q
 
--- the drivers when the instructions below x are done, of n processes
-pub record Owned (t : Table) (n x : ℕ) (own : List ℕ) : Type 0 where
-  pub long : length own ≡ 64
-  pub known : (k q : ℕ) → get_or own k 0 ≡ suc q → (q < n) × Drives t q k
-  pub done : (q i k : ℕ) → q < n → begins t q ≤ i → i < begins t (suc q) → i < x → Posts (at t.code i) k → get_or own k 0 ≡ suc q
+-- process p is noted as the driver of a signal, unless another process is
+pub record Claimed (own : List (Option ℕ)) (signal p : ℕ) (r : Bool) (new : List (Option ℕ)) : Type 0 where
+  pub noted : r ≡ true → new ≡ set own signal (Some p)
+  pub free : r ≡ true → (q : ℕ) → get_or own signal None ≡ Some q → q ≡ p
+  pub taken : r ≡ false → (q : ℕ) × (get_or own signal None ≡ Some q) × (q ≡ p → ⊥)
 
-pub record Drove (t : Table) (n x : ℕ) (r : Bool) (own : List ℕ) : Type 0 where
+-- the drivers when the instructions below x are done, of n processes
+pub record Owned (t : Table) (n x : ℕ) (own : List (Option ℕ)) : Type 0 where
+  pub long : length own ≡ 64
+  pub known : (k q : ℕ) → get_or own k None ≡ Some q → (q < n) × Drives t q k
+  pub done : (q i k : ℕ) → q < n → begins t q ≤ i → i < begins t (suc q) → i < x → Posts (at t.code i) k → get_or own k None ≡ Some q
+
+pub record Drove (t : Table) (n x : ℕ) (r : Bool) (own : List (Option ℕ)) : Type 0 where
   pub holds : r ≡ true → Owned t n x own
   pub fails : r ≡ false → Alone t n → ⊥

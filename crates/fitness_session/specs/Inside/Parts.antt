@@ -1,6 +1,5 @@
 -- Parts of a session's words. Assumes nothing: these are definitions.
-use Rattle.std.specs.Prelude.{ℕ, ◌+◌, ◌*◌, ◌/◌, ◌≤◌, ◌<◌, ◌≡◌, List, eqb, length, get_or}
-use Rattle.laws.specs.Pick.{pick}
+use Rattle.std.specs.Prelude.{ℕ, ◌+◌, ◌*◌, ◌/◌, ◌≤◌, ◌<◌, ◌≡◌, List, Option, Some, None, length, get_or}
 use Rattle.words.specs.Unit.{longest}
 use Rattle.rules.specs.Sizes.{most_pending}
 use Rattle.fitness.specs.Inside.Parts.{Within}
@@ -20,15 +19,16 @@ pub record Changes (words : List ℕ) (from count time : ℕ) : Type 0 where
   pub rising : (i j : ℕ) → i < j → j < count → get_or words (from + i) 0 / 2 < get_or words (from + j) 0 / 2
   pub unused : Within words (from + count) (from + 16) 0
 
--- how many may be pending for a signal with this driver, 0 for none
-unfoldable pub most_for : ℕ → ℕ
-most_for driver = pick (eqb driver 0) 0 most_pending
+-- how many may be pending for a signal with this driver
+abbrev pub most_for : Option ℕ → ℕ
+most_for (Some process) = most_pending
+most_for None = 0
 
 -- what is pending for signal k is fit
-pub record Signal (words : List ℕ) (driver k : ℕ) : Type 0 where
+pub record Signal (words : List ℕ) (driver : Option ℕ) (k : ℕ) : Type 0 where
   pub few : get_or words (66 + k) 0 ≤ most_for driver
   pub changes : Changes words (130 + 16 * k) (get_or words (66 + k) 0) (get_or words 1 0)
 
 -- for the first n signals
-abbrev pub Signals : List ℕ → List ℕ → ℕ → Type 0
-Signals words own n = (k : ℕ) → k < n → Signal words (get_or own k 0) k
+abbrev pub Signals : List ℕ → List (Option ℕ) → ℕ → Type 0
+Signals words own n = (k : ℕ) → k < n → Signal words (get_or own k None) k

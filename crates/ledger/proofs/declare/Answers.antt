@@ -15,16 +15,16 @@ pub refuse-requires : goal.refuse-requires
 refuse-requires c = sound-size c.requires.sound
 
 pub returns-then-is_used : goal.returns-then-is_used
-returns-then-is_used c = declare_used c.args.text.now c.args.ledger.now c.args.start (sound-size c.requires.sound) c.if-ledger-ne0.false c.args.end c.requires.span c.is_used.result c.is_used.ensures c.if-is_used.true c.refuse.ensures
+returns-then-is_used c = declare_used c.args.text.now c.args.ledger.now c.args.name.start (sound-size c.requires.sound) c.if-ledger-ne0.false c.args.name.end c.requires.span c.is_used.result c.is_used.ensures c.if-is_used.true c.refuse.ensures
 
 pub refuse-requires-then-ledger-eq64 : goal.refuse-requires-then-ledger-eq64
 refuse-requires-then-ledger-eq64 c = sound-size c.requires.sound
 
 pub returns-then-ledger-eq64 : goal.returns-then-ledger-eq64
-returns-then-ledger-eq64 c = declare_full c.args.text.now c.args.ledger.now c.args.start (sound-size c.requires.sound) c.if-ledger-ne0.false c.args.end c.requires.span c.is_used.result c.is_used.ensures c.if-is_used.false c.if-ledger-eq64.true c.refuse-then-ledger-eq64.ensures
+returns-then-ledger-eq64 c = declare_full c.args.text.now c.args.ledger.now c.args.name.start (sound-size c.requires.sound) c.if-ledger-ne0.false c.args.name.end c.requires.span c.is_used.result c.is_used.ensures c.if-is_used.false c.if-ledger-eq64.true c.refuse-then-ledger-eq64.ensures
 
 pub add-requires : goal.add-requires
 add-requires c = let s = (standing c.requires.sound c.if-ledger-ne0.false).stands in record { ledger_len = sound-size c.requires.sound; counter_bound = (omega arith, omega arith, s.few_signals) }
 
 pub returns : goal.returns
-returns c = declare_fine c.args.text.now c.args.ledger.now c.args.start (sound-size c.requires.sound) c.if-ledger-ne0.false c.args.end c.requires.span c.is_used.result c.is_used.ensures c.if-is_used.false c.if-ledger-eq64.false c.add.ensures
+returns c = declare_fine c.args.text.now c.args.ledger.now c.args.name.start (sound-size c.requires.sound) c.if-ledger-ne0.false c.args.name.end c.requires.span c.is_used.result c.is_used.ensures c.if-is_used.false c.if-ledger-eq64.false c.add.ensures

@@ -15,10 +15,10 @@ pub refuse-requires : goal.refuse-requires
 refuse-requires c = sound-size c.requires.sound
 
 pub returns-then-is_used : goal.returns-then-is_used
-returns-then-is_used c = label_used c.args.text.now c.args.ledger.now c.args.start (sound-size c.requires.sound) c.if-ledger-ne0.false c.args.end c.requires.span c.is_used.result c.is_used.ensures c.if-is_used.true c.refuse.ensures
+returns-then-is_used c = label_used c.args.text.now c.args.ledger.now c.args.name.start (sound-size c.requires.sound) c.if-ledger-ne0.false c.args.name.end c.requires.span c.is_used.result c.is_used.ensures c.if-is_used.true c.refuse.ensures
 
 pub add-requires : goal.add-requires
 add-requires c = let s = (standing c.requires.sound c.if-ledger-ne0.false).stands in record { ledger_len = sound-size c.requires.sound; counter_bound = (omega arith, omega arith, omega (arith, s.few_labels, s.few_processes)) }
 
 pub returns : goal.returns
-returns c = label_fine c.args.text.now c.args.ledger.now c.args.start (sound-size c.requires.sound) c.if-ledger-ne0.false c.args.end c.requires.span c.is_used.result c.is_used.ensures c.if-is_used.false c.add.ensures
+returns c = label_fine c.args.text.now c.args.ledger.now c.args.name.start (sound-size c.requires.sound) c.if-ledger-ne0.false c.args.name.end c.requires.span c.is_used.result c.is_used.ensures c.if-is_used.false c.add.ensures

@@ -1,15 +1,17 @@
 -- What the words of a ledger stand for: a judgement of the tokens so far.
 -- Assumes nothing.
-use Rattle.std.specs.Prelude.{ℕ, zero, suc, ◌+◌, ◌*◌, ◌<◌, ◌≤◌, ◌≡◌, refl, Bool, ◌||◌, List, [], ◌∷◌, eqb, ltb, length, get_or, set}
+use Rattle.std.specs.Prelude.{ℕ, zero, suc, ◌+◌, ◌*◌, ◌<◌, ◌≤◌, ◌≡◌, refl, Bool, ◌||◌, List, [], ◌∷◌, eqb, length, get_or, set, MatchOption}
+use Rattle.std.specs.Prelude as std
 use Rattle.std.proofs.Math.Option.{Option, none, some}
 use Rattle.laws.specs.Pick.{pick, within}
 use Rattle.laws.specs.Text.{bytes}
 use Rattle.words.specs.declared.unit.TimeUnit.{TimeUnit}
 use Rattle.words.specs.Token.{Name}
 use Rattle.words.specs.Unit.{femtoseconds_of, longest}
+use Rattle.look.specs.declared.Look.{Look}
 use Rattle.look.specs.Inside.Looks.{name_at}
 use Rattle.names.specs.Roles.{Role}
-use Rattle.names.specs.Judge.{State, Judgement, fine, refused, onward, judge, is_among, number_of, has}
+use Rattle.names.specs.Judge.{State, Judgement, fine, refused, onward, judge, is_among, number_of, has, assigned}
 
 -- from start to end is a part of the text
 pub record Span (text : List ℕ) (start end : ℕ) : Type 0 where
@@ -28,6 +30,11 @@ unfoldable pub names_from : (text ledger : List ℕ) → (base count : ℕ) → 
 names_from text ledger base zero = []
 names_from text ledger base (suc count) = name_at text (get_or ledger base 0) (get_or ledger (base + 1) 0) ∷ names_from text ledger (base + 2) count
 
+-- the number of a name among them, where it is there
+abbrev pub Finds : (text ledger : List ℕ) (base count : ℕ) (n : Name) → std.Option ℕ → Type 0
+Finds text ledger base count n result =
+    MatchOption result (count ≡ number_of n (names_from text ledger base count)) (λ i. (i < count) × (i ≡ number_of n (names_from text ledger base count)))
+
 -- one more name, where the word at counter says how many there are
 abbrev pub added : (ledger : List ℕ) (counter base start end : ℕ) → List ℕ
 added ledger counter base start end =
@@ -37,9 +44,14 @@ added ledger counter base start end =
 abbrev pub used_in : (text ledger : List ℕ) → Name → Bool
 used_in text ledger n = is_among n (names_from text ledger 6 (get_or ledger 2 0)) || is_among n (names_from text ledger 134 (get_or ledger 3 0))
 
--- a name that may be missing: then it starts where it ends
-abbrev pub name_option : (text : List ℕ) (start end : ℕ) → Option Name
-name_option text start end = pick (ltb start end) (some (name_at text start end)) none
+-- a name that may be missing
+abbrev pub SpanIfAny : (text : List ℕ) → std.Option Look → Type 0
+SpanIfAny text std.None = Unit {0}
+SpanIfAny text (std.Some own) = Span text own.start own.end
+
+abbrev pub name_if_any : (text : List ℕ) → std.Option Look → Option Name
+name_if_any text std.None = none
+name_if_any text (std.Some own) = some (name_at text own.start own.end)
 
 -- THE WORDS AND A STATE
 
@@ -90,6 +102,13 @@ pub record Held (unopened : ℕ) (ledger : List ℕ) : Type 0 where
 pub record Judges (before after : ℕ) (text : List ℕ) (role : Role) (place : ℕ) (ledger ledger' : List ℕ) : Type 0 where
   pub keeps : (j : Judgement) → Keeps before text ledger j → Keeps after text ledger' (onward j (λ y. judge y role place))
 
+-- the last process assigns a signal, which no process before it may
+abbrev pub driven : (signal place : ℕ) → State → Judgement
+driven signal place y = pick (has signal y.earlier) (refused 9 place) (fine (assigned signal y))
+
+pub record Drives (text : List ℕ) (signal place : ℕ) (ledger ledger' : List ℕ) : Type 0 where
+  pub keeps : (j : Judgement) → Keeps 0 text ledger j → Keeps 0 text ledger' (onward j (λ y. driven signal place y))
+
 -- the number of the signal of a name
 pub record Numbers (text ledger : List ℕ) (n : Name) (r : ℕ) : Type 0 where
   pub number_is : (y : State) → Keeps 0 text ledger (fine y) → r ≡ number_of n y.signal_names
@@ -106,14 +125,6 @@ pub record Lasts (ledger : List ℕ) (amount : ℕ) (unit : TimeUnit) (r : ℕ) 
 two_names : names_from (bytes "signal Q, d") (7 ∷ 8 ∷ 10 ∷ 11 ∷ []) 0 2 ≡ bytes "q" ∷ bytes "d" ∷ []
 unfolding names_from name_at
 two_names = refl
-
--- a process with the label `P`, and one without
-a_label : name_option (bytes "P : process") 0 1 ≡ some (bytes "p")
-unfolding name_at
-a_label = refl
-
-no_label : name_option (bytes "P : process") 0 0 ≡ none
-no_label = refl
 
 -- behind two names, a third from 7 to 8
 one_more : added (2 ∷ 5 ∷ 0 ∷ 0 ∷ 0 ∷ 0 ∷ 0 ∷ []) 0 1 7 8 ≡ 3 ∷ 5 ∷ 0 ∷ 0 ∷ 0 ∷ 7 ∷ 8 ∷ []

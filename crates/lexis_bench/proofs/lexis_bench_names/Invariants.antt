@@ -4,8 +4,8 @@ use Prim.Native.Nat.{◌-◌, ◌≤◌}
 use lib.ListN.{length}
 use Rattle.lexis_bench.proofs.lexis_bench_names.Given as goal
 
-abbrev pub invariant-loop-n : goal.invariant-loop-n
-invariant-loop-n l = (l.n ≤ length l.text) × (l.names ≤ l.n)
+abbrev pub invariant-loop-token : goal.invariant-loop-token
+invariant-loop-token l = (l.n ≤ length l.text) × (l.names ≤ l.n)
 
-abbrev pub decreases-loop-n : goal.decreases-loop-n
-decreases-loop-n l = length l.text - l.n
+abbrev pub decreases-loop-token : goal.decreases-loop-token
+decreases-loop-token l = length l.text - l.n

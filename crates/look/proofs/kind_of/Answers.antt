@@ -4,4 +4,4 @@ use mathlib.Core.Path.{◌∙◌}
 use Rattle.look.proofs.kind_of.Goals as goal
 
 pub returns-in-Word : goal.returns-in-Word
-returns-in-Word c = c.row_of.ensures ∙ rw c.in-Word.is
+returns-in-Word c = c.unwrap_or.ensures ∙ rw (c.in-Word.is, c.row_of.ensures)

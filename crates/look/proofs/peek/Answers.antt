@@ -1,46 +1,26 @@
 -- `look::peek` meets its contract: the scan of the text from place at on, with its places in the text.
 -- Assumes nothing.
-use mathlib.Core.Path.{sym, ap, ◌∙◌}
-use native.Mathlib.Omega.{arith}
+use Rattle.std.proofs.Common.{sym, ap, ◌∙◌}
+use Rattle.std.specs.Prelude.{Ok}
 use Rattle.laws.proofs.Lists.{rest}
 use Rattle.lexis.specs.Token.{scan_of}
-use Rattle.lexis.specs.declared.token.Scan.TheVariants.{Token as scanned}
-use Rattle.lexis.proofs.Bounds.{rest-within}
 use Rattle.look.specs.Inside.Looks.{look_of}
 use Rattle.look.proofs.peek.Goals as goal
 
-pub overflow_add-from : goal.overflow_add-from
-overflow_add-from c =
-    let e = ap scan_of (sym (rest c.args.text.now c.args.at)) ∙ sym c.next.ensures ∙ c.in-Token.is in
-    let w = rest-within c.args.text.now c.args.at (scanned c.in-Token.kind c.in-Token.start c.in-Token.length) e in
-    omega (arith, w.0, w.1)
-
-pub overflow_add-to : goal.overflow_add-to
-overflow_add-to c =
-    let e = ap scan_of (sym (rest c.args.text.now c.args.at)) ∙ sym c.next.ensures ∙ c.in-Token.is in
-    let w = rest-within c.args.text.now c.args.at (scanned c.in-Token.kind c.in-Token.start c.in-Token.length) e in
-    omega (arith, w.0, w.1)
-
-pub slice_bounds-kind_of-end : goal.slice_bounds-kind_of-end
-slice_bounds-kind_of-end c =
-    let e = ap scan_of (sym (rest c.args.text.now c.args.at)) ∙ sym c.next.ensures ∙ c.in-Token.is in
-    let w = rest-within c.args.text.now c.args.at (scanned c.in-Token.kind c.in-Token.start c.in-Token.length) e in
-    omega (arith, w.0, w.1)
-
-pub returns-in-Token : goal.returns-in-Token
+pub returns-in-Ok-Some : goal.returns-in-Ok-Some
 unfolding look_of
-returns-in-Token c =
-    let e = ap scan_of (sym (rest c.args.text.now c.args.at)) ∙ sym c.next.ensures ∙ c.in-Token.is in
+returns-in-Ok-Some c =
+    let e = ap scan_of (sym (rest c.args.text.now c.args.at)) ∙ sym c.next.ensures.scanned ∙ c.in-Ok-Some.is ∙ ap Ok c.in-Ok-Some.field-0-is in
     rw (e, c.kind_of-number.ensures)
 
-pub returns-in-End : goal.returns-in-End
+pub returns-in-Ok-None : goal.returns-in-Ok-None
 unfolding look_of
-returns-in-End c =
-    let e = ap scan_of (sym (rest c.args.text.now c.args.at)) ∙ sym c.next.ensures ∙ c.in-End.is in
-    rw e
+returns-in-Ok-None c =
+    let e = ap scan_of (sym (rest c.args.text.now c.args.at)) ∙ sym c.next.ensures.scanned ∙ c.in-Ok-None.is ∙ ap Ok c.in-Ok-None.field-0-is in
+    rw (e, c.finish.ensures)
 
-pub returns-in-Refused : goal.returns-in-Refused
+pub returns-in-Err : goal.returns-in-Err
 unfolding look_of
-returns-in-Refused c =
-    let e = ap scan_of (sym (rest c.args.text.now c.args.at)) ∙ sym c.next.ensures ∙ c.in-Refused.is in
-    rw e
+returns-in-Err c =
+    let e = ap scan_of (sym (rest c.args.text.now c.args.at)) ∙ sym c.next.ensures.scanned ∙ c.in-Err.is in
+    rw (e, c.finish-in-Err.ensures)

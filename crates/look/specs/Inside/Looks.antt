@@ -1,6 +1,6 @@
 -- The token at a place of a text, as a number with the places where it starts and ends; and which token each number stands for.
 -- Assumes nothing.
-use Rattle.std.specs.Prelude.{ℕ, zero, suc, ◌+◌, ◌-◌, ◌≡◌, refl, Bool, true, false, List, [], ◌∷◌, length, get_or, drop, take}
+use Rattle.std.specs.Prelude.{ℕ, zero, suc, ◌+◌, ◌-◌, ◌≡◌, refl, Bool, true, false, List, [], ◌∷◌, length, get_or, drop, take, Some, None, Ok, Err, unwrap_or}
 use Rattle.laws.specs.Pick.{same_list}
 use Rattle.laws.specs.Text.{bytes}
 use Rattle.words.specs.Integer.{value_of}
@@ -13,11 +13,9 @@ use Rattle.words.specs.Token.{Token, name, integer, literal, once, chain, unit, 
 use Rattle.lexis.specs.Byte.{class_of}
 use Rattle.lexis.specs.Blank.{skip_from}
 use Rattle.lexis.specs.Run.{run_length, all_digits, singles}
-use Rattle.lexis.specs.Token.{mark_of, lexeme_of, scan_of}
+use Rattle.lexis.specs.Token.{mark_of, lexeme_of, Scan, scan_of}
 use Rattle.lexis.specs.declared.token.Kind.{Kind}
 use Rattle.lexis.specs.declared.token.Kind.TheVariants.{Word, Integer, Open, Close, Comma, Colon, Semicolon, Arrow, Becomes}
-use Rattle.lexis.specs.declared.token.Scan.{Scan}
-use Rattle.lexis.specs.declared.token.Scan.TheVariants.{Token as scanned, End, Refused}
 use Rattle.look.specs.declared.Look.{Look}
 
 -- the bytes of a text from a place up to another
@@ -31,7 +29,7 @@ name_at text start end = lower (part text start end)
 -- THE NUMBER OF A TOKEN
 
 abbrev pub kind_of : Kind → List ℕ → ℕ
-kind_of Word run = row_of run
+kind_of Word run = unwrap_or (row_of run) 108
 kind_of Integer run = 109
 kind_of Open run = 110
 kind_of Close run = 111
@@ -45,10 +43,12 @@ abbrev pub finish : List ℕ → Look
 finish text = record { kind = 117; start = length text; end = length text }
 
 abbrev pub look_from : List ℕ → ℕ → Scan → Look
-look_from text at (scanned kind start length) =
-    record { kind = kind_of kind (part text (at + start) (at + start + length)); start = at + start; end = at + start + length }
-look_from text at End = finish text
-look_from text at (Refused place) = finish text
+look_from text at (Ok (Some found)) =
+    let start = at + found.start in
+    let end = start + found.length in
+    record { kind = kind_of found.kind (part text start end); start = start; end = end }
+look_from text at (Ok None) = finish text
+look_from text at (Err none) = finish text
 
 -- the token from place at on
 unfoldable pub look_of : List ℕ → ℕ → Look

@@ -3,11 +3,14 @@
 use mathlib.Core.Path.{refl}
 use native.Mathlib.Omega.{arith}
 use lib.ListN.{length-set}
-use Rattle.reader.proofs.Tabling.{translated}
+use Rattle.reader.proofs.Tabling.{translated, read_again}
 use Rattle.reader.proofs.tabulate.Goals as goal
 
-pub design-q-requires : goal.design-q-requires
-design-q-requires c = record { judgement = _; keeps = c.fresh-ledger.ensures c.args.text.now }
+pub design-requires : goal.design-requires
+design-requires c = record { judgement = _; keeps = c.fresh-ledger.ensures c.args.text.now }
+
+pub unwrap-q-requires : goal.unwrap-q-requires
+unwrap-q-requires c = read_again c.requires.answers.1 c.design.result c.design.ensures (c.fresh-ledger.ensures c.args.text.now)
 
 pub bounds-table-1 : goal.bounds-table-1
 bounds-table-1 c = simp (length-set) (omega (arith, c.table-2-1.given, c.table-1.given, c.requires.table_size_in_bounds))
@@ -19,4 +22,4 @@ pub shape_of-table : goal.shape_of-table
 shape_of-table c = simp (length-set) (omega (arith, c.table-2-1.given, c.table-1.given, c.requires.table_size_in_bounds))
 
 pub returns : goal.returns
-returns c = translated c.requires.answers.1 c.design-q.ensures (c.fresh-ledger.ensures c.args.text.now) c.requires.table_size_in_bounds c.clear.ensures refl
+returns c = translated c.requires.answers.1 (rw c.unwrap-q.ensures at c.design.ensures) (c.fresh-ledger.ensures c.args.text.now) c.requires.table_size_in_bounds c.clear.ensures refl

@@ -1,6 +1,6 @@
 -- What the readers of a whole design answer: as for its parts, up to the end of the text.
 -- Assumes nothing: these are definitions.
-use Rattle.std.specs.Prelude.{ℕ, ◌≡◌, Bool, List, [], ◌∷◌}
+use Rattle.std.specs.Prelude.{ℕ, ◌≡◌, Bool, List, [], ◌∷◌, Result, Ok, Err}
 use Rattle.std.proofs.Math.Option.{Option, some}
 use Rattle.words.specs.Token.{Name, ARCHITECTURE, OF, IS}
 use Rattle.syntax.specs.Tree.{Declaration, Process, Design, design}
@@ -12,14 +12,13 @@ use Rattle.names.specs.CircuitOf.{entity_name, signal_names}
 use Rattle.names.specs.Text.{accepts, refuses, Gets}
 use Rattle.emission.specs.Inside.Draft.{Draft, declarations_draft, processes_draft, design_draft}
 use Rattle.ledger.specs.Inside.Standing.{Keeps}
-use Rattle.reader.specs.declared.design.Checked.{Checked}
-use Rattle.reader.specs.declared.design.Checked.TheVariants.{Accepted, Refused}
-use Rattle.reading.specs.declared.Spot.{Spot}
-use Rattle.reading.specs.Inside.Spots.{tokens_from, verdict, Judged, word_of}
+use Rattle.refusal.specs.declared.Refusal.{Refusal}
+use Rattle.refusal.specs.Numbers.{number_of}
+use Rattle.reading.specs.Inside.Spots.{Reached, tokens_from, verdict, Judged, word_of}
 use Rattle.reading.specs.Inside.Reading.{the_name}
 
 -- the end of the text
-pub record Finished (s : List ℕ) (p q : Spot) : Type 0 where
+pub record Finished (s : List ℕ) (p q : Reached) : Type 0 where
   pub fine : q.number ≡ 0 → p.number ≡ 0
   pub moves : (k : Values Value [] → Design) → verdict s p [] k ≡ verdict s q [] k
   pub judges : q.number ≡ 0 → p ≡ q
@@ -49,7 +48,7 @@ architecture_roles e a r =
 abbrev pub architecture_draft : Architecture → Draft → Draft
 architecture_draft a m = processes_draft a.processes (declarations_draft a.declared m)
 
-pub record Behind (s : List ℕ) (e : Name) (p q : Spot) (l l' v v' : List ℕ) : Type 0 where
+pub record Behind (s : List ℕ) (e : Name) (p q : Reached) (l l' v v' : List ℕ) : Type 0 where
   pub tree : Architecture
   pub fine : q.number ≡ 0 → p.number ≡ 0
   pub moves : (k : Values Value behind_entity → Design) → verdict s p behind_entity k ≡ verdict s q [] (λ _. k (values_of tree))
@@ -57,7 +56,7 @@ pub record Behind (s : List ℕ) (e : Name) (p q : Spot) (l l' v v' : List ℕ) 
   pub ends : q.number ≡ 0 → tokens_from s q.at ≡ []
 
 -- the whole text
-abbrev pub beginning : Spot
+abbrev pub beginning : Reached
 beginning = record { number = 0; at = 0; next = 0 }
 
 abbrev pub whole_roles : (e : Name) (w : Bool) (c : Option Name) → Architecture → List Role → List Role
@@ -70,12 +69,13 @@ design_of e w c a = design e w c a.name a.of a.declared a.processes a.word a.clo
 abbrev pub own_name : List ℕ → Name
 own_name s = the_name s (word_of s beginning 0).at
 
-pub record Designed (s : List ℕ) (q : Spot) (l l' v v' : List ℕ) : Type 0 where
+pub record Designed (s : List ℕ) (q : Reached) (l l' v v' : List ℕ) : Type 0 where
   pub entity : Name
   pub word : Bool
   pub closed : Option Name
   pub behind : Architecture
   pub named : entity ≡ own_name s
+  pub begun : q.number ≡ 0 → (word_of s beginning 0).number ≡ 0
   pub moves : verdict s beginning (a_design ∷ []) (λ vs. vs.0) ≡ verdict s q [] (λ _. design_of entity word closed behind)
   pub judges : q.number ≡ 0 → Judged 0 0 s beginning q l l' v v' (whole_roles entity word closed behind) (design_draft (design_of entity word closed behind))
   pub ends : q.number ≡ 0 → tokens_from s q.at ≡ []
@@ -88,7 +88,8 @@ pub record Survey (s : List ℕ) (l : List ℕ) : Type 0 where
   pub keeps : Keeps 0 s l (fine state)
   pub names : state.signal_names ≡ signal_names tree
   pub named : entity_name tree ≡ own_name s
+  pub begun : (word_of s beginning 0).number ≡ 0
 
-pub data Surveyed (s : List ℕ) : Checked → List ℕ → Type 0 where
-  accepted_as : {l : List ℕ} → Survey s l → Surveyed s Accepted l
-  refused_as : {number place : ℕ} {l : List ℕ} → Gets s (refuses number place) → Surveyed s (Refused number place) l
+pub data Surveyed (s : List ℕ) : Result (Unit {0}) Refusal → List ℕ → Type 0 where
+  accepted_as : {l : List ℕ} → Survey s l → Surveyed s (Ok tt) l
+  refused_as : {refusal : Refusal} {l : List ℕ} → Gets s (refuses (number_of refusal.reason) refusal.place) → Surveyed s (Err refusal) l

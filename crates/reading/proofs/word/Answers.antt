@@ -1,17 +1,14 @@
--- `reading::word` meets its contract: case by case.
+-- `reading::word` meets its contract: the token is of the kind, or refused.
 -- Assumes nothing.
 use borrow.Author.Tests.{eq-eqb, ne_eqb}
+use Rattle.std.proofs.lemmas.Result.{err_from_is_err_and}
 use Rattle.reading.specs.Inside.Spots.{word_of}
 use Rattle.reading.proofs.word.Goals as goal
 
-pub returns-then-p-ne0 : goal.returns-then-p-ne0
+pub returns-in_err-t : goal.returns-in_err-t
 unfolding word_of
-returns-then-p-ne0 c = rw (ne_eqb _ 0 c.if-p-ne0.true)
-
-pub returns-then-t-kind : goal.returns-then-t-kind
-unfolding word_of
-returns-then-t-kind c = rw (eq-eqb _ 0 c.if-p-ne0.false, ← c.peek-t.ensures, eq-eqb _ _ c.if-t-kind.true)
+returns-in_err-t c = let e = err_from_is_err_and c.from_residual.result c.from_residual.ensures.1 in let k = c.in_err-t.ensures in rw (e.1, e.2, k.1, ne_eqb _ _ k.0)
 
 pub returns : goal.returns
 unfolding word_of
-returns c = rw (eq-eqb _ 0 c.if-p-ne0.false, ← c.peek-t.ensures, ne_eqb _ _ c.if-t-kind.false)
+returns c = let k = c.in_ok-t.ensures in rw (c.past.ensures, ← k.0, eq-eqb _ _ k.1)

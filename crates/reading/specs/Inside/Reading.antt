@@ -12,8 +12,7 @@ use Rattle.names.specs.Roles.{Role, expression_roles, tail_roles, more_roles, st
 use Rattle.look.specs.Inside.Looks.{name_at, look_of}
 use Rattle.emission.specs.Inside.Draft.{Draft, expression_draft, tail_draft, more_draft, statements_draft, statement_draft, sensitivity_draft, process_draft, each_draft, with_name, with_listener, with_initial, with_process, with_end}
 use Rattle.ledger.specs.Inside.Standing.{Sound}
-use Rattle.reading.specs.declared.Spot.{Spot}
-use Rattle.reading.specs.Inside.Spots.{verdict, Judged, word_of}
+use Rattle.reading.specs.Inside.Spots.{Reached, verdict, Judged, word_of}
 
 -- what a reader reads: a symbol and all that it stands for; an expression, what follows its first factor and what follows a factor of a
 -- chain, up to what must follow; a statement and statements; a list of signals up to what must follow; a process; a symbol whose value is
@@ -176,12 +175,12 @@ body_draft v m = with_end (statements_draft v.1.1.0 (sensitivity_draft v.0 m))
 -- WHAT A CALL NEEDS AND DOES
 
 -- a spot that a reader may be called at, with so many labels that are not yet opened
-pub record Ready (u : ℕ) (s : List ℕ) (p : Spot) (l : List ℕ) : Type 0 where
+pub record Ready (u : ℕ) (s : List ℕ) (p : Reached) (l : List ℕ) : Type 0 where
   pub inside : p.at ≤ length s
   pub sound : p.number ≡ 0 → Sound u s l
 
 -- from p to q, over the ledger l that becomes l' and the table's words v that become v'
-pub record Reads (w : What) (s : List ℕ) (room : ℕ) (p q : Spot) (l l' v v' : List ℕ) : Type 0 where
+pub record Reads (w : What) (s : List ℕ) (room : ℕ) (p q : Reached) (l l' v v' : List ℕ) : Type 0 where
   pub tree : Tree w
   pub fine : q.number ≡ 0 → p.number ≡ 0
   pub ahead : p.at ≤ q.at
@@ -194,11 +193,11 @@ pub record Reads (w : What) (s : List ℕ) (room : ℕ) (p q : Spot) (l l' v v' 
 abbrev pub the_name : List ℕ → ℕ → Name
 the_name s at = name_at s (look_of s at).start (look_of s at).end
 
-pub record Named (s : List ℕ) (p q : Spot) (l v : List ℕ) : Type 0 where
+pub record Named (s : List ℕ) (p q : Reached) (l v : List ℕ) : Type 0 where
   pub reads : Reads (given a_name (the_name s p.at) (λ r. passes ∷ r)) s 32 p q l l v v
   pub some : q.number ≡ 0 → (look_of s p.at).start < (look_of s p.at).end
 
 -- the word `process`, which the judge is told of
-pub record Opens (s : List ℕ) (p q : Spot) (l l' v : List ℕ) : Type 0 where
+pub record Opens (s : List ℕ) (p q : Reached) (l l' v : List ℕ) : Type 0 where
   pub worded : q ≡ word_of s p 8
   pub judged : q.number ≡ 0 → Judged 1 0 s p q l l' v v (λ r. opens ∷ r) with_process

@@ -1,33 +1,35 @@
 -- `run::advance_fit` meets its contract: the advance on loaded cells, which are stored where it moved. Assumes nothing.
-use mathlib.Core.Path.{refl}
-use mathlib.Core.List.{[]}
-use native.Mathlib.Omega.{arith}
-use Rattle.machine.proofs.Fetching.{held}
-use Rattle.machine.proofs.Running.{planned_empty}
+use mathlib.Core.Path.{◌≡◌, refl, ap, ◌∙◌}
+use borrow.Author.Rules.{rules}
+use Rattle.std.specs.Prelude.{Ok, Err}
 use Rattle.machine.proofs.Relaying.{unrelayed}
-use Rattle.run.proofs.Giving.{moved-long, gives_moved, gives-refused, gives-quiet, gives-stop, loaded_fit, its_time, for_session}
+use Rattle.machine.proofs.Running.{planned_empty}
+use Rattle.session.specs.declared.Answer.TheVariants.{Moved as Moves}
+use Rattle.run.proofs.Giving.{gives_moved, gives-refused, gives-still, loaded_fit, its_time, for_session}
 use Rattle.run.proofs.advance_fit.Goals as goal
 
-pub load-cells-requires : goal.load-cells-requires
-load-cells-requires c = c.requires.fit_session_words.holds.long
+pub forward-requires-clause-fit_for : goal.forward-requires-clause-fit_for
+forward-requires-clause-fit_for c = loaded_fit c.args.table.now c.args.words.now c.requires.fit_table_words c.requires.fit_session_words c.load-cells.result c.load-cells.ensures
 
-pub forward-requires : goal.forward-requires
-forward-requires c = record { fit_table_words = c.requires.fit_table_words; fit_for = loaded_fit c.args.table.now c.args.words.now c.requires.fit_table_words c.requires.fit_session_words c.load-cells.result c.load-cells.ensures; stop_bound = c.requires.stop_bound; in_bounds = c.requires.in_bounds; planned = planned_empty c.args.table.now; relayed = unrelayed c.args.table.now }
+pub forward-requires-clause-works : goal.forward-requires-clause-works
+forward-requires-clause-works c = record { table = c.requires.fit_table_words; planned = planned_empty c.args.table.now; relayed = unrelayed c.args.table.now }
 
-pub bounds-table-0 : goal.bounds-table-0
-bounds-table-0 c = omega (arith, (held c.args.table.now c.requires.fit_table_words).long)
+pub returns-in_err-answer : goal.returns-in_err-answer
+returns-in_err-answer c = λ f s.
+    let time = its_time c.args.table.now c.args.words.now c.requires.fit_table_words c.requires.fit_session_words c.load-cells.result c.load-cells.ensures in
+    let e : c.from_residual.result ≡ Err c.in_err-answer.field-0.0 = search rules in
+    rw e (for_session c.args.table.now c.args.words.now c.requires.fit_table_words c.requires.fit_session_words c.load-cells.result c.load-cells.ensures f s c.args.stop _ _ _ _
+    (gives-refused _ _ _ _ _ _ _ c.in_err-answer.field-0.0 (rw c.in_err-answer.was at (c.forward.ensures time))))
 
-pub store-requires : goal.store-requires
-store-requires c = record { in_bounds = c.requires.fit_session_words.holds.long; cells_len = moved-long _ _ [] _ _ _ _ c.in-Moves.b c.in-Moves.t c.in-Moves.c c.in-Moves.s (rw c.in-Moves.is at (c.forward.ensures (its_time c.args.table.now c.args.words.now c.requires.fit_table_words c.requires.fit_session_words c.load-cells.result c.load-cells.ensures))) }
+pub returns-in-Moved : goal.returns-in-Moved
+returns-in-Moved c = λ f s.
+    let time = its_time c.args.table.now c.args.words.now c.requires.fit_table_words c.requires.fit_session_words c.load-cells.result c.load-cells.ensures in
+    let e : c.forward.result ≡ Ok (Moves c.in-Moved.moved) = c.in_ok-answer.was ∙ ap Ok c.in-Moved.is in
+    for_session c.args.table.now c.args.words.now c.requires.fit_table_words c.requires.fit_session_words c.load-cells.result c.load-cells.ensures f s c.args.stop _ _ _ _
+    (gives_moved _ _ _ _ _ _ _ c.in-Moved.moved _ _ refl c.store.ensures (rw e at (c.forward.ensures time)))
 
-pub returns-in-Moves : goal.returns-in-Moves
-returns-in-Moves c = λ f s. for_session c.args.table.now c.args.words.now c.requires.fit_table_words c.requires.fit_session_words c.load-cells.result c.load-cells.ensures f s c.args.stop _ _ _ _ (gives_moved _ _ _ _ _ _ _ c.in-Moves.b c.in-Moves.t c.in-Moves.c c.in-Moves.s _ _ refl c.store.ensures (rw c.in-Moves.is at (c.forward.ensures (its_time c.args.table.now c.args.words.now c.requires.fit_table_words c.requires.fit_session_words c.load-cells.result c.load-cells.ensures))))
-
-pub returns-in-Refused : goal.returns-in-Refused
-returns-in-Refused c = λ f s. for_session c.args.table.now c.args.words.now c.requires.fit_table_words c.requires.fit_session_words c.load-cells.result c.load-cells.ensures f s c.args.stop _ _ _ _ (gives-refused _ _ _ _ _ _ _ c.in-Refused.n (rw c.in-Refused.is at (c.forward.ensures (its_time c.args.table.now c.args.words.now c.requires.fit_table_words c.requires.fit_session_words c.load-cells.result c.load-cells.ensures))))
-
-pub returns-in-Quiet : goal.returns-in-Quiet
-returns-in-Quiet c = λ f s. for_session c.args.table.now c.args.words.now c.requires.fit_table_words c.requires.fit_session_words c.load-cells.result c.load-cells.ensures f s c.args.stop _ _ _ _ (gives-quiet _ _ _ _ _ _ _ (rw c.in-Quiet.is at (c.forward.ensures (its_time c.args.table.now c.args.words.now c.requires.fit_table_words c.requires.fit_session_words c.load-cells.result c.load-cells.ensures))))
-
-pub returns-in-StopReached : goal.returns-in-StopReached
-returns-in-StopReached c = λ f s. for_session c.args.table.now c.args.words.now c.requires.fit_table_words c.requires.fit_session_words c.load-cells.result c.load-cells.ensures f s c.args.stop _ _ _ _ (gives-stop _ _ _ _ _ _ _ (rw c.in-StopReached.is at (c.forward.ensures (its_time c.args.table.now c.args.words.now c.requires.fit_table_words c.requires.fit_session_words c.load-cells.result c.load-cells.ensures))))
+pub returns-in_default : goal.returns-in_default
+returns-in_default c = λ f s.
+    let time = its_time c.args.table.now c.args.words.now c.requires.fit_table_words c.requires.fit_session_words c.load-cells.result c.load-cells.ensures in
+    for_session c.args.table.now c.args.words.now c.requires.fit_table_words c.requires.fit_session_words c.load-cells.result c.load-cells.ensures f s c.args.stop _ _ _ _
+    (gives-still _ _ _ _ _ _ _ c.in_ok-answer.answer c.in_default.not-Moved (rw c.in_ok-answer.was at (c.forward.ensures time)))

@@ -1,22 +1,12 @@
 -- `run::start` meets its contract: 11, 13, then the run. Assumes nothing.
-use borrow.Author.Tests.{not-true, not-false}
-use Rattle.run.proofs.Answering.{short-table, short-session, short-out, long-enough, starts-short, starts-unfit, starts-runs}
+use Rattle.run.proofs.Answering.{starts_short, starts_unfit, starts_runs}
 use Rattle.run.proofs.start.Goals as goal
 
-pub returns-then-table-lt8387 : goal.returns-then-table-lt8387
-returns-then-table-lt8387 c = starts-short c.args.table.now c.args.words.now c.args.out.now (short-table c.args.table.now c.args.words.now c.args.out.now c.if-table-lt8387.true)
-
-pub returns-then-words-lt1154 : goal.returns-then-words-lt1154
-returns-then-words-lt1154 c = starts-short c.args.table.now c.args.words.now c.args.out.now (short-session c.args.table.now c.args.words.now c.args.out.now c.if-words-lt1154.true)
-
-pub returns-then-out-lt4096 : goal.returns-then-out-lt4096
-returns-then-out-lt4096 c = starts-short c.args.table.now c.args.words.now c.args.out.now (short-out c.args.table.now c.args.words.now c.args.out.now c.if-out-lt4096.true)
+pub returns-then-not-long_enough : goal.returns-then-not-long_enough
+returns-then-not-long_enough c = starts_short _ _ _ (c.long_enough.ensures.fails c.if-not-long_enough.true)
 
 pub returns-then-not-fit_table : goal.returns-then-not-fit_table
-returns-then-not-fit_table c = starts-unfit c.args.table.now c.args.words.now c.args.out.now (long-enough c.args.table.now c.args.words.now c.args.out.now c.if-table-lt8387.false c.if-words-lt1154.false c.if-out-lt4096.false) (c.fit_table.ensures.fails (not-true _ c.if-not-fit_table.true-raw))
-
-pub start_fit-requires : goal.start_fit-requires
-start_fit-requires c = record { fit_table_words = (c.fit_table.ensures.holds (not-false _ c.if-not-fit_table.false-raw)); words_in_bounds = c.if-words-lt1154.false; out_in_bounds = c.if-out-lt4096.false }
+returns-then-not-fit_table c = starts_unfit _ _ _ (c.long_enough.ensures.holds c.if-not-long_enough.false) (c.fit_table.ensures.fails c.if-not-fit_table.true)
 
 pub returns : goal.returns
-returns c = starts-runs c.args.table.now c.args.words.now c.args.out.now _ _ _ (long-enough c.args.table.now c.args.words.now c.args.out.now c.if-table-lt8387.false c.if-words-lt1154.false c.if-out-lt4096.false) (c.fit_table.ensures.holds (not-false _ c.if-not-fit_table.false-raw)) (c.start_fit.ensures (c.fit_table.ensures.holds (not-false _ c.if-not-fit_table.false-raw)))
+returns c = let f = c.fit_table.ensures.holds c.if-not-fit_table.false in starts_runs _ _ _ _ _ _ (c.long_enough.ensures.holds c.if-not-long_enough.false) f (c.start_fit.ensures f)

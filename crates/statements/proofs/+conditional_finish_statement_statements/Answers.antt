@@ -4,123 +4,117 @@ use native.Mathlib.Omega.{arith}
 use mathlib.Core.Path.{◌≡◌, refl, sym, ap, ◌∙◌}
 use borrow.Author.Rules.{rules}
 use borrow.Author.Tests.{not-true, not-false}
+use Rattle.std.proofs.lemmas.Result.{err_from_is_err_and}
 use Rattle.words.specs.Token.{THEN, SEMICOLON}
 use Rattle.look.specs.declared.Look.{Look}
 use Rattle.look.proofs.Looks.{seen-there}
 use Rattle.reading.specs.Inside.Spots.{starter}
 use Rattle.reading.proofs.Words.{worded}
-use Rattle.reading.proofs.Generic.{reads-off, ready-token, ready-pass, ready-word, ready-reads, ready_at}
-use Rattle.statements.proofs.Returns.{statement_deep, statement_if, statement_null, none-stops, statements-none, statements_more, finish_end, finish_else, starter-null, reads-less, stops_at}
-use Rattle.ledger.proofs.Keeping.{held}
+use Rattle.reading.proofs.Generic.{numbered, forward-ends, word-off, reads-stays, reads-ends, ready-token, ready-pass, ready-word, ready-reads, ready_at}
+use Rattle.statements.proofs.Returns.{end_if-off, statement_deep, statement_if, statement_null, none-stops, statements-none, statements_more, finish_end, finish_else, starter-null, stops_at}
 use Rattle.statements.proofs.+conditional_finish_statement_statements.Goals as goal
 
 pub conditional-returns-then-room-eq0 : goal.conditional-returns-then-room-eq0
-conditional-returns-then-room-eq0 t c = (statement_deep c.requires.0.inside c.requires.1 c.requires.2 c.requires.3 c.if-room-eq0.true, record { more = λ z. absurd (omega (arith, z)) })
+conditional-returns-then-room-eq0 t c = (statement_deep c.requires.0.inside refl c.requires.1 c.requires.2 c.if-room-eq0.true, record { more = λ z. absurd (omega (arith, z)) })
 
-pub conditional-count-requires : goal.conditional-count-requires
-conditional-count-requires t c = record { held = held (c.requires.0.sound c.requires.1); instructions_bound = omega arith }
+pub conditional-expression-requires : goal.conditional-expression-requires
+conditional-expression-requires t c = rw c.past.ensures (ready-token c.requires.0 refl c.requires.1 (λ z. omega (arith, c.requires.2, z)) (c.count.ensures c.args.text.now))
 
-pub conditional-overflow_sub-room : goal.conditional-overflow_sub-room
-conditional-overflow_sub-room t c = omega (arith, c.if-room-eq0.false)
+pub conditional-returns-in_err-e : goal.conditional-returns-in_err-e
+conditional-returns-in_err-e t c =
+    let d = rw c.past.ensures at c.in_err-e.ensures in
+    let no = numbered c.in_err-e.field-0.0 in
+    forward-ends c.from_residual.result _ c.from_residual.ensures.1 (statement_if c.requires.0.inside refl c.requires.1 c.requires.2 c.if-room-eq0.false (c.count.ensures c.args.text.now) d (word-off _ _ _ no) refl refl (reads-stays _ d.inside no) refl refl (reads-stays _ d.inside no) refl refl)
 
-pub conditional-expression-e-requires : goal.conditional-expression-e-requires
-conditional-expression-e-requires t c = ready-token c.requires.0 c.requires.1 c.requires.2 (λ z. omega (arith, c.requires.3, z)) (c.count.ensures c.args.text.now)
+pub conditional-returns-in_err-a : goal.conditional-returns-in_err-a
+conditional-returns-in_err-a t c =
+    let d = rw c.past.ensures at c.in_ok-e.ensures in
+    let w = worded THEN d.inside c.in_err-a.ensures in
+    let no = numbered c.in_err-a.field-0.0 in
+    forward-ends c.from_residual-in_err-a.result _ c.from_residual-in_err-a.ensures.1 (statement_if c.requires.0.inside refl c.requires.1 c.requires.2 c.if-room-eq0.false (c.count.ensures c.args.text.now) d c.in_err-a.ensures refl refl (reads-stays _ w.inside no) refl refl (reads-stays _ w.inside no) refl refl)
 
-pub conditional-word-a-requires : goal.conditional-word-a-requires
-conditional-word-a-requires t c = c.expression-e.ensures.inside
+pub conditional-statements-requires : goal.conditional-statements-requires
+conditional-statements-requires t c = (omega (arith, c.decreases, c.if-room-eq0.false), (ready_at (ready-word (ready-reads (ready-token c.requires.0 refl c.requires.1 (λ z. omega (arith, c.requires.2, z)) (c.count.ensures c.args.text.now)) (rw c.past.ensures at c.in_ok-e.ensures)) THEN c.in_ok-a.ensures)))
 
-pub conditional-overflow_sub-room-2 : goal.conditional-overflow_sub-room-2
-conditional-overflow_sub-room-2 t c = omega (arith, c.if-room-eq0.false)
+pub conditional-returns-in_err-b : goal.conditional-returns-in_err-b
+conditional-returns-in_err-b t c =
+    let b = c.in_err-b.ensures in
+    forward-ends c.from_residual-in_err-b.result _ c.from_residual-in_err-b.ensures.1 (statement_if c.requires.0.inside refl c.requires.1 c.requires.2 c.if-room-eq0.false (c.count.ensures c.args.text.now) (rw c.past.ensures at c.in_ok-e.ensures) c.in_ok-a.ensures c.emit-first.ensures.0 c.emit-first.ensures.1 b.0 refl refl (reads-stays _ b.0.inside (numbered c.in_err-b.field-0.0)) refl refl)
 
-pub conditional-statements-b-requires : goal.conditional-statements-b-requires
-conditional-statements-b-requires t c = (omega (arith, c.decreases, c.if-room-eq0.false), ready_at (ready-word (ready-reads (ready-token c.requires.0 c.requires.1 c.requires.2 (λ z. omega (arith, c.requires.3, z)) (c.count.ensures c.args.text.now)) c.expression-e.ensures) THEN c.word-a.ensures))
+pub conditional-finish-requires : goal.conditional-finish-requires
+conditional-finish-requires t c = (omega (arith, c.decreases, c.if-room-eq0.false), ((ready_at (ready-reads (ready_at (ready-word (ready-reads (ready-token c.requires.0 refl c.requires.1 (λ z. omega (arith, c.requires.2, z)) (c.count.ensures c.args.text.now)) (rw c.past.ensures at c.in_ok-e.ensures)) THEN c.in_ok-a.ensures)) c.in_ok-b.ensures.0)), stops_at c.in_ok-b.ensures.1))
 
-pub conditional-overflow_sub-room-3 : goal.conditional-overflow_sub-room-3
-conditional-overflow_sub-room-3 t c = omega (arith, c.if-room-eq0.false)
-
-pub conditional-finish-q-requires : goal.conditional-finish-q-requires
-conditional-finish-q-requires t c = (omega (arith, c.decreases, c.if-room-eq0.false), (ready_at (ready-reads (ready_at (ready-word (ready-reads (ready-token c.requires.0 c.requires.1 c.requires.2 (λ z. omega (arith, c.requires.3, z)) (c.count.ensures c.args.text.now)) c.expression-e.ensures) THEN c.word-a.ensures)) c.statements-b.ensures.0), stops_at c.statements-b.ensures.1))
-
-pub conditional-shape_of-table : goal.conditional-shape_of-table
-conditional-shape_of-table t c = omega (arith, c.table-7-1.given, c.table-6-1.given, c.table-5-1.given, c.table-4-1.given, c.table-3-1.given, c.table-2-1.given, c.table-1.given)
+pub conditional-returns-in_err-q : goal.conditional-returns-in_err-q
+conditional-returns-in_err-q t c =
+    forward-ends c.from_residual-in_err-q.result _ c.from_residual-in_err-q.ensures.1 (statement_if c.requires.0.inside refl c.requires.1 c.requires.2 c.if-room-eq0.false (c.count.ensures c.args.text.now) (rw c.past.ensures at c.in_ok-e.ensures) c.in_ok-a.ensures c.emit-first.ensures.0 c.emit-first.ensures.1 c.in_ok-b.ensures.0 c.emit-second.ensures.0 c.emit-second.ensures.1 c.in_err-q.ensures refl refl)
 
 pub conditional-returns : goal.conditional-returns
 conditional-returns t c =
-    let x = seen-there c.requires.0.inside c.requires.2 (λ z. omega (arith, c.requires.3, z)) in
-    let w = worded THEN c.expression-e.ensures.inside c.word-a.ensures in (
-      statement_if c.requires.0.inside c.requires.1 c.requires.2 c.requires.3 c.if-room-eq0.false (c.count.ensures c.args.text.now) c.expression-e.ensures c.word-a.ensures c.emit-first.ensures.0 c.emit-first.ensures.1 c.statements-b.ensures.0 c.emit-second.ensures.0 c.emit-second.ensures.1 c.finish-q.ensures c.aim.ensures c.aim-2.ensures,
-      record { more = λ z. omega (arith, x.after, x.some, c.expression-e.ensures.ahead, w.ahead, c.statements-b.ensures.0.ahead, c.finish-q.ensures.ahead) },
+    let x = seen-there c.requires.0.inside c.requires.1 (λ z. omega (arith, c.requires.2, z)) in
+    let e = rw c.past.ensures at c.in_ok-e.ensures in
+    let w = worded THEN e.inside c.in_ok-a.ensures in
+    let b = c.in_ok-b.ensures in
+    let q = c.in_ok-q.ensures in (
+      statement_if c.requires.0.inside refl c.requires.1 c.requires.2 c.if-room-eq0.false (c.count.ensures c.args.text.now) e c.in_ok-a.ensures c.emit-first.ensures.0 c.emit-first.ensures.1 b.0 c.emit-second.ensures.0 c.emit-second.ensures.1 q c.aim.ensures c.aim-2.ensures,
+      record { more = λ z. omega (arith, x.after, x.some, e.ahead, w.ahead, b.0.ahead, q.ahead) },
     )
 
-pub finish-returns-then-p-ne0 : goal.finish-returns-then-p-ne0
-finish-returns-then-p-ne0 t c = reads-off _ c.requires.0.inside c.if-p-ne0.true
-
-pub finish-peek-t-requires : goal.finish-peek-t-requires
-finish-peek-t-requires t c = c.requires.0.inside
-
-pub finish-end_if-requires : goal.finish-end_if-requires
-finish-end_if-requires t c = c.requires.0.inside
-
 pub finish-returns-then-t-ne-ELSE : goal.finish-returns-then-t-ne-ELSE
-finish-returns-then-t-ne-ELSE t c = finish_end c.requires.0.inside c.if-p-ne0.false c.peek-t.ensures c.requires.1 c.if-t-ne-ELSE.true c.end_if.ensures
+finish-returns-then-t-ne-ELSE t c = finish_end c.requires.0.inside refl c.peek-t.ensures c.requires.1 c.if-t-ne-ELSE.true c.end_if.ensures
 
-pub finish-statements-q-requires : goal.finish-statements-q-requires
-finish-statements-q-requires t c = (omega (arith, c.decreases), ready-pass c.requires.0 c.if-p-ne0.false c.peek-t.ensures (λ z. omega (arith, c.if-t-ne-ELSE.false, z)))
+pub finish-statements-requires : goal.finish-statements-requires
+finish-statements-requires t c = (omega (arith, c.decreases), rw c.past.ensures (ready-pass c.requires.0 refl c.peek-t.ensures (λ z. omega (arith, c.if-t-ne-ELSE.false, z))))
 
-pub finish-end_if-requires-2 : goal.finish-end_if-requires-2
-finish-end_if-requires-2 t c = c.statements-q.ensures.0.inside
+pub finish-returns-in_err-q : goal.finish-returns-in_err-q
+finish-returns-in_err-q t c =
+    let d = rw c.past.ensures at c.in_err-q.ensures in
+    reads-ends c.from_residual.result _ c.from_residual.ensures.1 (finish_else c.requires.0.inside refl c.peek-t.ensures c.requires.1 c.if-t-ne-ELSE.false d.0 d.1 (end_if-off _ _ (numbered c.in_err-q.field-0.0)))
 
 pub finish-returns : goal.finish-returns
-finish-returns t c = finish_else c.requires.0.inside c.if-p-ne0.false c.peek-t.ensures c.requires.1 c.if-t-ne-ELSE.false c.statements-q.ensures.0 c.statements-q.ensures.1 c.end_if-2.ensures
+finish-returns t c =
+    let d = rw c.past.ensures at c.in_ok-q.ensures in
+    finish_else c.requires.0.inside refl c.peek-t.ensures c.requires.1 c.if-t-ne-ELSE.false d.0 d.1 c.end_if-2.ensures
 
 pub statement-assignment-requires : goal.statement-assignment-requires
-statement-assignment-requires t c = record { ready = c.requires.0; number_value = (c.requires.1, c.requires.2, c.if-t-eq-NAME.true) }
-
-pub statement-returns-then-t-eq-NAME : goal.statement-returns-then-t-eq-NAME
-statement-returns-then-t-eq-NAME t c = c.assignment.ensures
+statement-assignment-requires t c = record { ready = c.requires.0; target = (c.requires.1, c.if-t-eq-NAME.true) }
 
 pub statement-conditional-requires : goal.statement-conditional-requires
-statement-conditional-requires t c = (omega (arith, c.decreases), (c.requires.0, c.requires.1, c.requires.2, c.if-t-eq-IF.true))
-
-pub statement-returns-then-t-eq-IF : goal.statement-returns-then-t-eq-IF
-statement-returns-then-t-eq-IF t c = c.conditional.ensures
+statement-conditional-requires t c = (omega (arith, c.decreases), (c.requires.0, c.requires.1, c.if-t-eq-IF.true))
 
 pub statement-word-requires : goal.statement-word-requires
 statement-word-requires t c =
-    let k : c.args.t.kind ≡ 14 = starter-null c.args.t.kind c.requires.3 c.if-t-eq-NAME.false c.if-t-eq-IF.false in
-    (seen-there c.requires.0.inside c.requires.2 (λ z. omega (arith, k, z))).inside
+    let k : c.args.t.kind ≡ 14 = starter-null c.args.t.kind c.requires.2 c.if-t-eq-NAME.false c.if-t-eq-IF.false in
+    rw c.past.ensures (seen-there c.requires.0.inside c.requires.1 (λ z. omega (arith, k, z))).inside
 
 pub statement-returns : goal.statement-returns
 statement-returns t c =
-    let k : c.args.t.kind ≡ 14 = starter-null c.args.t.kind c.requires.3 c.if-t-eq-NAME.false c.if-t-eq-IF.false in
-    let x = seen-there c.requires.0.inside c.requires.2 (λ z. omega (arith, k, z)) in
-    let w = worded SEMICOLON x.inside c.word.ensures in
-    (statement_null c.requires.0.inside c.requires.1 c.requires.2 k c.word.ensures, record { more = λ z. omega (arith, x.after, x.some, w.ahead) })
-
-pub statements-loop-p-init : goal.statements-loop-p-init
-statements-loop-p-init t c = (c.requires, (λ q l v d. d), refl)
-
-pub statements-peek-t-requires : goal.statements-peek-t-requires
-statements-peek-t-requires t c = c.loop-p.invariant.0.inside
+    let k : c.args.t.kind ≡ 14 = starter-null c.args.t.kind c.requires.2 c.if-t-eq-NAME.false c.if-t-eq-IF.false in
+    let x = seen-there c.requires.0.inside c.requires.1 (λ z. omega (arith, k, z)) in
+    let d = rw c.past.ensures at c.word.ensures in
+    let w = worded SEMICOLON x.inside d in
+    (statement_null c.requires.0.inside refl c.requires.1 k d, record { more = λ z. omega (arith, x.after, x.some, w.ahead) })
 
 pub statements-returns-then-not-starts : goal.statements-returns-then-not-starts
 statements-returns-then-not-starts t c = (
-  c.loop-p.invariant.1 _ _ _ (statements-none c.loop-p.invariant.0.inside),
+  c.loop-t.invariant.1 _ _ _ (statements-none c.loop-t.invariant.0.inside),
   record { none = λ z. ap (λ (u : Look). starter u.kind) (sym c.peek-t.ensures) ∙ sym c.starts.ensures ∙ not-true _ c.if-not-starts.true-raw },
 )
 
-pub statements-statement-p-requires : goal.statements-statement-p-requires
-statements-statement-p-requires t c = (omega (arith, c.decreases), (c.loop-p.invariant.0, c.loop-p-test.true, c.peek-t.ensures, sym c.starts.ensures ∙ not-false _ c.if-not-starts.false-raw))
+pub statements-statement-requires : goal.statements-statement-requires
+statements-statement-requires t c = (omega (arith, c.decreases), (c.loop-t.invariant.0, c.peek-t.ensures, sym c.starts.ensures ∙ not-false _ c.if-not-starts.false-raw))
 
-pub statements-loop-p-smaller : goal.statements-loop-p-smaller
-statements-loop-p-smaller t c = reads-less c.loop-p-test.true c.statement-p.ensures.0 c.statement-p.ensures.1
+pub statements-returns-in_err-p : goal.statements-returns-in_err-p
+statements-returns-in_err-p t c =
+    let d = c.in_err-p.ensures in
+    let e = err_from_is_err_and c.from_residual.result c.from_residual.ensures.1 in (
+      reads-ends c.from_residual.result _ c.from_residual.ensures.1 (c.loop-t.invariant.1 _ _ _ (statements_more d.0 (statements-none d.0.inside))),
+      rw (e.1, e.2) (none-stops _ _ (numbered c.in_err-p.field-0.0)),
+    )
 
-pub statements-loop-p-preserved : goal.statements-loop-p-preserved
-statements-loop-p-preserved t c = (
-  ready-reads c.loop-p.invariant.0 c.statement-p.ensures.0,
-  (λ q l v d. c.loop-p.invariant.1 q l v (statements_more c.statement-p.ensures.0 d)),
-  search rules,
-)
+pub statements-loop-t-smaller : goal.statements-loop-t-smaller
+statements-loop-t-smaller t c = let d = c.in_ok-p.ensures in omega (arith, d.1.more refl, d.0.inside)
 
-pub statements-returns : goal.statements-returns
-statements-returns t c = (c.loop-p.invariant.1 _ _ _ (statements-none c.loop-p.invariant.0.inside), none-stops _ _ c.loop-p-test.false)
+pub statements-loop-t-preserved : goal.statements-loop-t-preserved
+statements-loop-t-preserved t c =
+    let d = c.in_ok-p.ensures in
+    (ready-reads c.loop-t.invariant.0 d.0, (λ q l v o. c.loop-t.invariant.1 q l v (statements_more d.0 o)), search rules)

@@ -1,31 +1,24 @@
 -- `statements::delay_end` meets its contract: each return by its law.
 -- Assumes nothing.
+use mathlib.Core.Path.{refl}
 use native.Mathlib.Omega.{arith}
 use Rattle.look.proofs.Looks.{seen-there}
-use Rattle.reading.proofs.Generic.{reads-off}
-use Rattle.statements.proofs.Returns.{ends-refused, ending_none, ending_no_integer}
+use Rattle.statements.proofs.Returns.{ending-ends, ending_none, ending_no_integer}
 use Rattle.statements.proofs.delay_end.Goals as goal
 
-pub returns-then-p-ne0 : goal.returns-then-p-ne0
-returns-then-p-ne0 c = λ room words. ends-refused c.if-p-ne0.true (reads-off _ c.requires.inside c.if-p-ne0.true)
-
-pub peek-t-requires : goal.peek-t-requires
-peek-t-requires c = c.requires.inside
-
-pub word-q-requires : goal.word-q-requires
-word-q-requires c = c.requires.inside
+pub returns-in_err-spot : goal.returns-in_err-spot
+returns-in_err-spot c = λ room words. ending-ends c.from_residual.result _ c.from_residual.ensures.1 (ending_none c.requires.inside refl c.peek-t.ensures c.if-t-ne-AFTER.true c.in_err-spot.ensures).reads
 
 pub returns-then-t-ne-AFTER : goal.returns-then-t-ne-AFTER
-returns-then-t-ne-AFTER c = λ room words. ending_none c.requires.inside c.if-p-ne0.false c.peek-t.ensures c.if-t-ne-AFTER.true c.word-q.ensures
+returns-then-t-ne-AFTER c = λ room words. ending_none c.requires.inside refl c.peek-t.ensures c.if-t-ne-AFTER.true c.in_ok-spot.ensures
 
-pub peek-i-requires : goal.peek-i-requires
-peek-i-requires c = let x = seen-there c.requires.inside c.peek-t.ensures (λ z. omega (arith, c.if-t-ne-AFTER.false, z)) in x.inside
+pub token-requires : goal.token-requires
+token-requires c = (seen-there c.requires.inside c.peek-t.ensures (λ z. omega (arith, c.if-t-ne-AFTER.false, z))).inside
 
-pub returns-then-i-ne-INTEGER : goal.returns-then-i-ne-INTEGER
-returns-then-i-ne-INTEGER c = λ room words. ends-refused (λ z. omega (arith, z)) (ending_no_integer c.requires.inside c.if-p-ne0.false c.peek-t.ensures c.if-t-ne-AFTER.false c.peek-i.ensures _ c.if-i-ne-INTEGER.true)
+pub returns-in_err-i : goal.returns-in_err-i
+returns-in_err-i c =
+    let k = c.in_err-i.ensures in
+    λ room words. ending-ends {v' = words} c.from_residual-in_err-i.result _ c.from_residual-in_err-i.ensures.1 (rw k.1 (ending_no_integer c.requires.inside refl c.peek-t.ensures c.if-t-ne-AFTER.false refl 0 k.0))
 
 pub unit_end-requires : goal.unit_end-requires
-unit_end-requires c = record { ready = (c.requires, c.if-p-ne0.false, rw c.peek-t.ensures at c.if-t-ne-AFTER.false); i_value = (rw c.peek-t.ensures at c.peek-i.ensures, c.if-i-ne-INTEGER.false) }
-
-pub returns : goal.returns
-returns c = c.unit_end.ensures
+unit_end-requires c = let k = c.in_ok-i.ensures in record { ready = (c.requires, rw c.peek-t.ensures at c.if-t-ne-AFTER.false); i_value = (rw c.peek-t.ensures at k.0, k.1) }

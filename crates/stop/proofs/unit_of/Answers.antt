@@ -1,41 +1,15 @@
--- `stop::unit_of` meets its contract: one comparison after the other.
+-- `stop::unit_of` meets its contract: the first unit whose spelling the word is.
 -- Assumes nothing.
-use mathlib.Core.Path.{sym, ◌∙◌}
-use Rattle.stop.specs.Stop.{unit_of}
+use Rattle.std.proofs.Common.{rules, tests, sym, ◌∙◌}
+use Rattle.std.proofs.lemmas.Iterator.{YieldsList-from_slice}
+use Rattle.std.proofs.lemmas.Iterator.Consumers.{YieldsList-at, YieldsList-from_copied}
+use Rattle.std.proofs.lemmas.Iterator.Search.{find_from_yields_List}
+use Rattle.std.proofs.lemmas.Iterator.Adapters.{option_map_id}
+use Rattle.stop.proofs.Units.{says, units, found}
 use Rattle.stop.proofs.unit_of.Goals as goal
 
-pub returns-then-same_word : goal.returns-then-same_word
-unfolding unit_of
-returns-then-same_word c = rw (sym c.same_word.ensures ∙ c.if-same_word.true)
-
-pub returns-then-same_word-2 : goal.returns-then-same_word-2
-unfolding unit_of
-returns-then-same_word-2 c = rw (sym c.same_word.ensures ∙ c.if-same_word.false, sym c.same_word-2.ensures ∙ c.if-same_word-2.true)
-
-pub returns-then-same_word-3 : goal.returns-then-same_word-3
-unfolding unit_of
-returns-then-same_word-3 c = rw (sym c.same_word.ensures ∙ c.if-same_word.false, sym c.same_word-2.ensures ∙ c.if-same_word-2.false, sym c.same_word-3.ensures ∙ c.if-same_word-3.true)
-
-pub returns-then-same_word-4 : goal.returns-then-same_word-4
-unfolding unit_of
-returns-then-same_word-4 c = rw (sym c.same_word.ensures ∙ c.if-same_word.false, sym c.same_word-2.ensures ∙ c.if-same_word-2.false, sym c.same_word-3.ensures ∙ c.if-same_word-3.false, sym c.same_word-4.ensures ∙ c.if-same_word-4.true)
-
-pub returns-then-same_word-5 : goal.returns-then-same_word-5
-unfolding unit_of
-returns-then-same_word-5 c = rw (sym c.same_word.ensures ∙ c.if-same_word.false, sym c.same_word-2.ensures ∙ c.if-same_word-2.false, sym c.same_word-3.ensures ∙ c.if-same_word-3.false, sym c.same_word-4.ensures ∙ c.if-same_word-4.false, sym c.same_word-5.ensures ∙ c.if-same_word-5.true)
-
-pub returns-then-same_word-6 : goal.returns-then-same_word-6
-unfolding unit_of
-returns-then-same_word-6 c = rw (sym c.same_word.ensures ∙ c.if-same_word.false, sym c.same_word-2.ensures ∙ c.if-same_word-2.false, sym c.same_word-3.ensures ∙ c.if-same_word-3.false, sym c.same_word-4.ensures ∙ c.if-same_word-4.false, sym c.same_word-5.ensures ∙ c.if-same_word-5.false, sym c.same_word-6.ensures ∙ c.if-same_word-6.true)
-
-pub returns-then-same_word-7 : goal.returns-then-same_word-7
-unfolding unit_of
-returns-then-same_word-7 c = rw (sym c.same_word.ensures ∙ c.if-same_word.false, sym c.same_word-2.ensures ∙ c.if-same_word-2.false, sym c.same_word-3.ensures ∙ c.if-same_word-3.false, sym c.same_word-4.ensures ∙ c.if-same_word-4.false, sym c.same_word-5.ensures ∙ c.if-same_word-5.false, sym c.same_word-6.ensures ∙ c.if-same_word-6.false, sym c.same_word-7.ensures ∙ c.if-same_word-7.true)
-
-pub returns-then-same_word-8 : goal.returns-then-same_word-8
-unfolding unit_of
-returns-then-same_word-8 c = rw (sym c.same_word.ensures ∙ c.if-same_word.false, sym c.same_word-2.ensures ∙ c.if-same_word-2.false, sym c.same_word-3.ensures ∙ c.if-same_word-3.false, sym c.same_word-4.ensures ∙ c.if-same_word-4.false, sym c.same_word-5.ensures ∙ c.if-same_word-5.false, sym c.same_word-6.ensures ∙ c.if-same_word-6.false, sym c.same_word-7.ensures ∙ c.if-same_word-7.false, sym c.same_word-8.ensures ∙ c.if-same_word-8.true)
-
 pub returns : goal.returns
-unfolding unit_of
-returns c = rw (sym c.same_word.ensures ∙ c.if-same_word.false, sym c.same_word-2.ensures ∙ c.if-same_word-2.false, sym c.same_word-3.ensures ∙ c.if-same_word-3.false, sym c.same_word-4.ensures ∙ c.if-same_word-4.false, sym c.same_word-5.ensures ∙ c.if-same_word-5.false, sym c.same_word-6.ensures ∙ c.if-same_word-6.false, sym c.same_word-7.ensures ∙ c.if-same_word-7.false, sym c.same_word-8.ensures ∙ c.if-same_word-8.false)
+returns c =
+    let road = YieldsList-from_copied (YieldsList-at c.copied.ensures.source (YieldsList-from_slice units c.iter.ensures.rest)) in
+    sym (option_map_id c.find.result) ∙ find_from_yields_List (says c.args.word.now) c.find.new.self _ c.find.result c.find.ensures.ran road (λ x b q k. search (rules, tests))
+    ∙ found c.args.word.now

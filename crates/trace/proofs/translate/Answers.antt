@@ -4,4 +4,4 @@ use Rattle.demands_code.proofs.Demand3.{demand_3}
 use Rattle.trace.proofs.translate.Goals as goal
 
 pub run-requires-clause-fit_table_words : goal.run-requires-clause-fit_table_words
-run-requires-clause-fit_table_words g c = (demand_3 _ _ _ c.in-Written.ensures).1.fit
+run-requires-clause-fit_table_words g c = (demand_3 _ _ _ c.in-Ok.ensures).1.fit

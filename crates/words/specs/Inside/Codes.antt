@@ -1,6 +1,6 @@
--- A word as a number, and the search for it among the numbers of the rows: what the code does for the vocabulary's rows.
+-- A word as a number, and the numbers of the rows: what the code searches in place of the vocabulary's rows.
 -- Assumes nothing.
-use Rattle.std.specs.Prelude.{ℕ, ◌+◌, ◌-◌, ◌*◌, List, [], ◌∷◌, map, eqb}
+use Rattle.std.specs.Prelude.{ℕ, ◌+◌, ◌-◌, ◌*◌, List, [], ◌∷◌, map}
 use Rattle.laws.specs.Pick.{pick, within}
 use Rattle.laws.specs.Text.{bytes}
 use Rattle.words.specs.Vocabulary.{Row, vocabulary}
@@ -19,8 +19,3 @@ row_code r = code_of (bytes r.spelling)
 
 unfoldable pub codes : List ℕ
 codes = map row_code vocabulary
-
--- the number of the first code that is the same, counted from k; past the last where there is none
-unfoldable pub find_from : ℕ → ℕ → List ℕ → ℕ
-find_from k code [] = k
-find_from k code (c ∷ cs) = let later = find_from (k + 1) code cs in pick (eqb c code) k later

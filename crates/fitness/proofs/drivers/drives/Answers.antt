@@ -1,69 +1,72 @@
--- `fitness::drivers::drives` meets its contract: the drivers are known for the instructions below x.
+-- `fitness::drivers::drives` meets its contract: the instructions below x are done.
 -- Assumes nothing.
-use mathlib.Core.Path.{◌≡◌, sym, subst, ◌∙◌}
-use borrow.Author.Tests.{eqb-true, not-true, not-false}
+use Prim.Native.Nat.{◌≤◌, ◌<◌}
+use mathlib.Core.Path.{◌≡◌, sym, subst}
 use native.Mathlib.Omega.{arith}
 use Rattle.laws.proofs.Deciding.{differ}
 use Rattle.layout.proofs.Tables.{decode_table}
 use Rattle.fitness.specs.Inside.Parts.{processes, instructions}
 use Rattle.fitness.specs.Inside.Drivers.{Owned}
-use Rattle.fitness.proofs.Kind.{legal-signal}
-use Rattle.fitness.proofs.Reading.{kind_at, rows-low}
-use Rattle.fitness.proofs.Owners.{own_more, own_bad}
+use Rattle.fitness.proofs.Reading.{rows-low, assignment-posts, posts-only, posts-signal, posts-nothing}
+use Rattle.fitness.proofs.Owners.{own-skip, own-more, own-bad}
 use Rattle.fitness.proofs.drivers.drives.Goals as goal
-
-pub overflow_add-driver : goal.overflow_add-driver
-overflow_add-driver c = omega (arith, c.requires.ready.few.few_processes)
-
-pub loop-x-init : goal.loop-x-init
-loop-x-init c =
-    let q = rows-low (decode_table c.args.words.now) (processes c.args.words.now) (instructions c.args.words.now) c.requires.ready.rows c.args.p c.requires.p_bound in
-    (omega arith, omega arith, omega arith, c.requires.owned)
+use Rattle.fitness.proofs.drivers.drives.Goals.{else-posts-via-then-posts+else-not-claim, else-posts-via-else-posts}
 
 pub overflow_add-operation : goal.overflow_add-operation
-overflow_add-operation c = omega (arith, c.requires.ready.few.few_instructions)
+overflow_add-operation c =
+    let q = rows-low (decode_table c.args.words.now) (processes c.args.words.now) (instructions c.args.words.now) c.requires.ready.rows c.args.p c.requires.p_bound in
+    omega (arith, c.requires.ready.few.few_instructions)
 
 pub offset_bounds-words-x : goal.offset_bounds-words-x
-offset_bounds-words-x c = omega (arith, c.requires.ready.few.few_instructions)
+offset_bounds-words-x c =
+    let q = rows-low (decode_table c.args.words.now) (processes c.args.words.now) (instructions c.args.words.now) c.requires.ready.rows c.args.p c.requires.p_bound in
+    omega (arith, c.requires.ready.few.few_instructions)
 
 pub bounds-words-x : goal.bounds-words-x
-bounds-words-x c = omega (arith, c.requires.ready.few.few_instructions, c.requires.ready.few.long)
+bounds-words-x c =
+    let q = rows-low (decode_table c.args.words.now) (processes c.args.words.now) (instructions c.args.words.now) c.requires.ready.rows c.args.p c.requires.p_bound in
+    omega (arith, c.requires.ready.few.few_instructions, c.requires.ready.few.long)
 
-pub put-requires : goal.put-requires
-put-requires c =
-    λ e. omega (
-      arith,
-      c.loop-x.invariant.3.long,
-      c.requires.ready.few.few_signals,
-      legal-signal _ _ _ (c.requires.ready.legal c.loop-x.x (omega arith)) (eqb-true _ _ e),
-    )
+pub claim-requires : goal.claim-requires
+claim-requires c =
+    let q = rows-low (decode_table c.args.words.now) (processes c.args.words.now) (instructions c.args.words.now) c.requires.ready.rows c.args.p c.requires.p_bound in
+    omega (arith, c.loop-x.invariant.long, posts-signal c.args.words.now c.requires.ready c.loop-x.x (omega arith) (omega arith))
 
-pub shape_of-own-then-not-put : goal.shape_of-own-then-not-put
-shape_of-own-then-not-put c = c.put.ensures.long ∙ c.loop-x.invariant.3.long ∙ sym c.requires.owned.long
-
-pub returns-then-not-put : goal.returns-then-not-put
-returns-then-not-put c = record {
-  holds = λ z. differ (sym z);
-  fails = λ z. own_bad (decode_table c.args.words.now) (processes c.args.words.now) (instructions c.args.words.now) c.args.p c.loop-x.x c.loop-x.own c.put.new.hs _ _ c.put.result c.loop-x.invariant.3
-      c.requires.ready.rows c.requires.p_bound (omega arith) (omega arith) (kind_at c.args.words.now c.requires.ready c.loop-x.x (omega arith)) c.put.ensures (not-true _ c.if-not-put.true-raw);
-}
+pub returns-then-not-claim : goal.returns-then-not-claim
+returns-then-not-claim c =
+    let w = c.args.words.now in
+    let q = rows-low (decode_table w) (processes w) (instructions w) c.requires.ready.rows c.args.p c.requires.p_bound in
+    let d = c.claim.ensures.taken c.if-not-claim.true in
+    record {
+      holds = λ z. differ (sym z);
+      fails = λ z. own-bad (decode_table w) (processes w) (instructions w) c.args.p c.loop-x.x c.loop-x.own c.loop-x.invariant c.requires.ready.rows c.requires.p_bound (omega arith)
+          (omega arith) _ (assignment-posts w c.requires.ready c.loop-x.x (omega arith) (omega arith)) d.0 d.1 d.2;
+    }
 
 pub loop-x-preserved : goal.loop-x-preserved
-loop-x-preserved c = (
-  omega arith,
-  omega arith,
-  omega arith,
-  own_more (decode_table c.args.words.now) (processes c.args.words.now) (instructions c.args.words.now) c.args.p c.loop-x.x c.loop-x.own c.put.new.hs _ _ c.put.result c.loop-x.invariant.3
-      c.requires.ready.rows c.requires.p_bound (omega arith) (omega arith) (kind_at c.args.words.now c.requires.ready c.loop-x.x (omega arith)) c.put.ensures (not-false _ c.if-not-put.false-raw),
-)
-
-pub shape_of-own : goal.shape_of-own
-shape_of-own c = c.loop-x.invariant.3.long ∙ sym c.requires.owned.long
+loop-x-preserved c =
+    let w = c.args.words.now in
+    let t = decode_table w in
+    let n = processes w in
+    let m = instructions w in
+    let q = rows-low t n m c.requires.ready.rows c.args.p c.requires.p_bound in
+    let l : c.loop-x.x < m = omega arith in
+    elim c.else-posts.branch [
+      | else-posts-via-then-posts+else-not-claim u ↦
+          rw (u.own-is, u.claim.ensures.noted u.if-not-claim.false)
+          (own-more t n m c.args.p c.loop-x.x c.loop-x.own c.loop-x.invariant c.requires.ready.rows c.requires.p_bound (omega arith) (omega arith) _
+          (assignment-posts w c.requires.ready c.loop-x.x l (omega arith)) (posts-signal w c.requires.ready c.loop-x.x l (omega arith))
+          (posts-only w c.requires.ready c.loop-x.x l (omega arith)) (u.claim.ensures.free u.if-not-claim.false))
+      | else-posts-via-else-posts u ↦
+          rw u.own-is (own-skip t n m c.args.p c.loop-x.x c.loop-x.own c.loop-x.invariant (posts-nothing w c.requires.ready c.loop-x.x l (λ e. omega arith)))
+    ]
 
 pub returns : goal.returns
 returns c =
+    let q = rows-low (decode_table c.args.words.now) (processes c.args.words.now) (instructions c.args.words.now) c.requires.ready.rows c.args.p c.requires.p_bound in
+    let last : c.loop-x.x ≤ c.args.upto = c.loop-x.auto.x-end (omega arith) in
     let q : c.loop-x.x ≡ c.args.upto = omega arith in
     record {
-      holds = λ z. subst (λ x. Owned (decode_table c.args.words.now) (processes c.args.words.now) x c.loop-x.own) q c.loop-x.invariant.3;
+      holds = λ z. subst (λ x. Owned (decode_table c.args.words.now) (processes c.args.words.now) x c.loop-x.own) q c.loop-x.invariant;
       fails = λ z. differ z;
     }

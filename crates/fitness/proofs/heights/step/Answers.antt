@@ -1,8 +1,9 @@
 -- `fitness::heights::step` meets its contract: the heights where the instruction leads are put there.
 -- Assumes nothing.
-use borrow.Author.Tests.{leb-true, not-true, not-false}
+use mathlib.Core.Path.{ap}
 use native.Mathlib.Omega.{arith}
-use Rattle.fitness.proofs.Passes.{leaves-few, step-idle, step-short, step-high, step-clash, step-done}
+use Rattle.fitness.proofs.Passes.{leaves-few, step-idle, step-short, step-high, step-clash, step-both, step-next, step-jump, goes_only}
+use Rattle.fitness.specs.Inside.Kinds.{goes_on, jumps}
 use Rattle.fitness.proofs.heights.step.Goals as goal
 
 pub returns-then-h-eq0 : goal.returns-then-h-eq0
@@ -17,20 +18,23 @@ overflow_add-left c = omega (arith, leaves-few c.args.kind)
 pub returns-then-left-gt35 : goal.returns-then-left-gt35
 returns-then-left-gt35 c = step-high c.args.hs.now c.args.kind c.args.about c.args.x (omega arith) (omega arith)
 
-pub put-requires : goal.put-requires
-put-requires c = λ e. omega arith
+pub returns-then-put : goal.returns-then-put
+returns-then-put c =
+    step-both c.args.hs.now c.args.kind c.args.about c.args.x _ (omega arith) (omega arith) (omega arith) (ap goes_on c.in-Test.is) (ap jumps c.in-Test.is)
+    c.put.new.hs c.put-then-put.new.hs _ _ c.if-put.true c.put.ensures c.put-then-put.ensures
 
-pub shape_of-hs-then-not-put : goal.shape_of-hs-then-not-put
-shape_of-hs-then-not-put c = c.put.ensures.long
+pub returns-else-put : goal.returns-else-put
+returns-else-put c =
+    step-clash c.args.hs.now c.args.kind c.args.about c.args.x _ (omega arith) (omega arith) (omega arith) (ap goes_on c.in-Test.is)
+    c.put.new.hs _ c.if-put.false c.put.ensures
 
-pub returns-then-not-put : goal.returns-then-not-put
-returns-then-not-put c = step-clash c.args.hs.now c.args.kind c.args.about c.args.x c.put.new.hs _ (omega arith) (omega arith) _ c.put.ensures (not-true _ c.if-not-put.true-raw)
+pub returns-in-Skip : goal.returns-in-Skip
+returns-in-Skip c =
+    step-jump c.args.hs.now c.args.kind c.args.about c.args.x _ (omega arith) (omega arith) (omega arith) (ap jumps c.in-Skip.is) (ap goes_on c.in-Skip.is)
+    c.put-in-Skip.new.hs _ c.put-in-Skip.ensures
 
-pub put-requires-2 : goal.put-requires-2
-put-requires-2 c = λ e. omega (arith, c.put.ensures.long, c.requires.forward (leb-true 10 c.args.kind e))
-
-pub shape_of-hs : goal.shape_of-hs
-shape_of-hs c = omega (arith, c.put.ensures.long, c.put-2.ensures.long)
-
-pub returns : goal.returns
-returns c = step-done c.args.hs.now c.args.kind c.args.about c.args.x c.put.new.hs _ (omega arith) (omega arith) _ c.put.ensures c.put-2.new.hs _ (not-false _ c.if-not-put.false-raw) (omega arith) c.put-2.ensures
+pub returns-in_default : goal.returns-in_default
+returns-in_default c =
+    let g = goes_only c.args.kind c.in_default.not-Test c.in_default.not-Skip in
+    step-next c.args.hs.now c.args.kind c.args.about c.args.x _ (omega arith) (omega arith) (omega arith) g.0 g.1
+    c.put-in_default.new.hs _ c.put-in_default.ensures

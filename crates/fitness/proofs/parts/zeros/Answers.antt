@@ -1,14 +1,16 @@
--- `fitness::parts::zeros` meets its contract: the words below j are gathered.
+-- `fitness::parts::zeros` meets its contract: the words before are gathered.
 -- Assumes nothing.
+use Prim.Native.Nat.{◌+◌, ◌-◌}
+use mathlib.Core.Path.{◌≡◌}
 use native.Mathlib.Omega.{arith}
-use Rattle.fitness.proofs.Ranges.{gather_none, gather_more, gather_done}
+use Rattle.fitness.proofs.Ranges.{gather_more}
+use Rattle.fitness.proofs.Spans.{at_part}
 use Rattle.fitness.proofs.parts.zeros.Goals as goal
 
-pub loop-j-init : goal.loop-j-init
-loop-j-init c = (omega arith, gather_none c.args.words.now c.args.from)
-
-pub loop-j-preserved : goal.loop-j-preserved
-loop-j-preserved c = (omega arith, gather_more c.args.words.now c.args.from c.loop-j.j c.loop-j.all c.loop-j.invariant.1)
-
-pub returns : goal.returns
-returns c = gather_done c.args.words.now c.args.from c.args.upto c.loop-j.j c.loop-j.all (omega arith) c.loop-j.invariant.1
+pub loop-word-preserved : goal.loop-word-preserved
+loop-word-preserved c =
+    let w = c.args.words.now in
+    let j = c.args.from + c.loop-word.word-index in
+    let e : c.args.from + (c.loop-word.word-index + 1) ≡ j + 1 = omega arith in
+    rw (at_part w c.args.from (c.args.upto - c.args.from) (omega arith) c.loop-word.word-index 0 (omega arith), e)
+    (gather_more w c.args.from j c.loop-word.all c.loop-word.invariant)

@@ -1,26 +1,15 @@
--- `lexis::run::run_length` meets its contract: the run from i on ends where the whole run ends.
+-- `lexis::run::run_length` meets its contract: the run is as long as the bytes that it may have.
 -- Assumes nothing.
-use borrow.Enum.Refused.{opened}
-use mathlib.Core.Path.{◌≡◌, refl, ◌∙◌}
-use mathlib.Core.Bool.{true, false}
-use mathlib.Core.List.{[], ◌∷◌}
-use borrow.Author.Rules.{rules}
-use Rattle.lexis.specs.Byte.{in_run}
-use Rattle.lexis.specs.declared.byte.Class.{Class}
-use Rattle.lexis.proofs.Classes.{among}
-use Rattle.lexis.proofs.Walks.{run_on, run-off, run_end}
+use Rattle.std.proofs.Common.{rules, tests, sym, ◌∙◌}
+use Rattle.std.proofs.lemmas.Iterator.{YieldsList-from_slice}
+use Rattle.std.proofs.lemmas.Iterator.Consumers.{count_from_yields_List}
+use Rattle.std.proofs.lemmas.Iterator.Search.{YieldsList-from_take_while}
+use Rattle.std.proofs.lemmas.List.Folds.{length-prefix_len}
+use Rattle.lexis.proofs.Walks.{runs_on, run_prefix}
 use Rattle.lexis.proofs.run.run_length.Goals as goal
 
-pub loop-i-preserved : goal.loop-i-preserved
-loop-i-preserved c = (
-  search rules,
-  run_on c.args.text.now c.loop-i.i c.loop-i-test.true c.class_of.result c.class_of.ensures
-      (among (λ (k : Class). in_run k ≡ true) c.class_of.result 0 (1 ∷ 2 ∷ []) c.in-Letter.in-Letter-own.keys1 (refl, (refl, refl))) ∙ c.loop-i.invariant.1,
-)
-
-pub returns-in_default : goal.returns-in_default
-returns-in_default c = run-off c.args.text.now c.loop-i.i c.loop-i-test.true c.class_of.result c.class_of.ensures
-    (among (λ (k : Class). in_run k ≡ false) c.class_of.result 3 (4 ∷ 5 ∷ 6 ∷ 7 ∷ []) (opened c.in_default.in_default-own.keys2) (refl, (refl, (refl, (refl, refl))))) ∙ c.loop-i.invariant.1
-
 pub returns : goal.returns
-returns c = run_end c.args.text.now c.loop-i.i c.loop-i-test.false ∙ c.loop-i.invariant.1
+returns c =
+    count_from_yields_List c.take_while.result _ c.count.ensures.ran
+    (YieldsList-from_take_while _ runs_on (YieldsList-from_slice c.args.text.now (cc)) c.take_while.ensures.closure c.take_while.ensures.done (λ x b q k. search (rules, tests)))
+    ∙ length-prefix_len runs_on c.args.text.now ∙ sym (run_prefix c.args.text.now)

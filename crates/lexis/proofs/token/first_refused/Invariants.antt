@@ -7,8 +7,8 @@ use Rattle.lexis.specs.Token.{first_refused}
 use Rattle.lexis.proofs.Scans.{refused_at}
 use Rattle.lexis.proofs.token.first_refused.Given as goal
 
-abbrev pub invariant-loop-n : goal.invariant-loop-n
-invariant-loop-n l = (l.n ≤ length l.text) × (refused_at l.n (drop l.n l.text) ≡ first_refused l.text)
+abbrev pub invariant-loop-token : goal.invariant-loop-token
+invariant-loop-token l = (l.n ≤ length l.text) × (refused_at l.n (drop l.n l.text) ≡ first_refused l.text)
 
-abbrev pub decreases-loop-n : goal.decreases-loop-n
-decreases-loop-n l = length l.text - l.n
+abbrev pub decreases-loop-token : goal.decreases-loop-token
+decreases-loop-token l = length l.text - l.n

@@ -2,8 +2,8 @@
 use Rattle.std.proofs.Common.{length, ◌-◌, ◌≤◌}
 use Rattle.lexis_cases.proofs.scan.tokens.Given as goal
 
-abbrev pub invariant-loop-n : goal.invariant-loop-n
-invariant-loop-n g l = l.n ≤ length l.text
+abbrev pub invariant-loop-found : goal.invariant-loop-found
+invariant-loop-found g l = l.n ≤ length l.text
 
-abbrev pub decreases-loop-n : goal.decreases-loop-n
-decreases-loop-n g l = length l.text - l.n
+abbrev pub decreases-loop-found : goal.decreases-loop-found
+decreases-loop-found g l = length l.text - l.n

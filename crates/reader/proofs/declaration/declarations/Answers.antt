@@ -5,33 +5,39 @@ use native.Mathlib.Omega.{arith}
 use borrow.Author.Rules.{rules}
 use mathlib.Core.List.{[]}
 use Rattle.look.proofs.Looks.{seen-there}
-use Rattle.reading.proofs.Generic.{reads-off, ready-pass, ready-reads}
+use Rattle.reading.proofs.Generic.{numbered, reads-stays, reads-ends, ready-pass, ready-reads}
 use Rattle.reader.proofs.Declarations.{signals_end, signals_more}
 use Rattle.reader.proofs.declaration.declarations.Goals as goal
 
-pub loop-p-init : goal.loop-p-init
-loop-p-init c = (c.requires, (λ q l v d. d), refl)
-
-pub peek-t-requires : goal.peek-t-requires
-peek-t-requires c = c.loop-p.invariant.0.inside
-
-pub word-requires : goal.word-requires
-word-requires c = c.loop-p.invariant.0.inside
-
 pub returns-then-t-ne-SIGNAL : goal.returns-then-t-ne-SIGNAL
-returns-then-t-ne-SIGNAL c = c.loop-p.invariant.1 _ _ _ (signals_end c.loop-p.invariant.0.inside c.loop-p-test.true c.peek-t.ensures c.if-t-ne-SIGNAL.true c.word.ensures)
+returns-then-t-ne-SIGNAL c = c.loop-t.invariant.1 _ _ _ (signals_end c.loop-t.invariant.0.inside refl c.peek-t.ensures c.if-t-ne-SIGNAL.true c.word.ensures)
 
-pub declared-a-requires : goal.declared-a-requires
-declared-a-requires c = ready-pass c.loop-p.invariant.0 c.loop-p-test.true c.peek-t.ensures (λ z. omega (arith, c.if-t-ne-SIGNAL.false, z))
+pub declared-requires : goal.declared-requires
+declared-requires c = rw c.past.ensures (ready-pass c.loop-t.invariant.0 refl c.peek-t.ensures (λ z. omega (arith, c.if-t-ne-SIGNAL.false, z)))
 
-pub more_signals-p-requires : goal.more_signals-p-requires
-more_signals-p-requires c = ready-reads (ready-pass c.loop-p.invariant.0 c.loop-p-test.true c.peek-t.ensures (λ z. omega (arith, c.if-t-ne-SIGNAL.false, z))) (c.declared-a.ensures [])
+pub returns-in_err-a : goal.returns-in_err-a
+returns-in_err-a c =
+    let d = (rw c.past.ensures at c.in_err-a.ensures) c.loop-t.table in
+    let no = numbered c.in_err-a.field-0.0 in
+    reads-ends c.from_residual.result _ c.from_residual.ensures.1 (c.loop-t.invariant.1 _ _ _ (signals_more c.loop-t.invariant.0.inside refl c.peek-t.ensures _ c.if-t-ne-SIGNAL.false refl d (reads-stays _ d.inside no) (reads-stays _ d.inside no)))
 
-pub loop-p-smaller : goal.loop-p-smaller
-loop-p-smaller c = let x = seen-there c.loop-p.invariant.0.inside c.peek-t.ensures (λ z. omega (arith, c.if-t-ne-SIGNAL.false, z)) in omega (arith, x.after, x.some, (c.declared-a.ensures []).ahead, c.more_signals-p.ensures.ahead, c.more_signals-p.ensures.inside)
+pub more_signals-requires : goal.more_signals-requires
+more_signals-requires c = ready-reads (ready-pass c.loop-t.invariant.0 refl c.peek-t.ensures (λ z. omega (arith, c.if-t-ne-SIGNAL.false, z))) ((rw c.past.ensures at c.in_ok-a.ensures) [])
 
-pub loop-p-preserved : goal.loop-p-preserved
-loop-p-preserved c = (ready-reads (ready-reads (ready-pass c.loop-p.invariant.0 c.loop-p-test.true c.peek-t.ensures (λ z. omega (arith, c.if-t-ne-SIGNAL.false, z))) (c.declared-a.ensures [])) c.more_signals-p.ensures, (λ q l v d. c.loop-p.invariant.1 q l v (signals_more c.loop-p.invariant.0.inside c.loop-p-test.true c.peek-t.ensures _ c.if-t-ne-SIGNAL.false refl (c.declared-a.ensures _) c.more_signals-p.ensures d)), search rules)
+pub returns-in_err-p : goal.returns-in_err-p
+returns-in_err-p c =
+    let o = c.in_err-p.ensures in
+    reads-ends c.from_residual-in_err-p.result _ c.from_residual-in_err-p.ensures.1 (c.loop-t.invariant.1 _ _ _ (signals_more c.loop-t.invariant.0.inside refl c.peek-t.ensures _ c.if-t-ne-SIGNAL.false refl ((rw c.past.ensures at c.in_ok-a.ensures) _) o (reads-stays _ o.inside (numbered c.in_err-p.field-0.0))))
 
-pub returns : goal.returns
-returns c = c.loop-p.invariant.1 _ _ _ (reads-off _ c.loop-p.invariant.0.inside c.loop-p-test.false)
+pub loop-t-smaller : goal.loop-t-smaller
+loop-t-smaller c =
+    let x = seen-there c.loop-t.invariant.0.inside c.peek-t.ensures (λ z. omega (arith, c.if-t-ne-SIGNAL.false, z)) in
+    let d = (rw c.past.ensures at c.in_ok-a.ensures) [] in
+    let o = c.in_ok-p.ensures in
+    omega (arith, x.after, x.some, d.ahead, o.ahead, o.inside)
+
+pub loop-t-preserved : goal.loop-t-preserved
+loop-t-preserved c =
+    let d = rw c.past.ensures at c.in_ok-a.ensures in
+    let o = c.in_ok-p.ensures in
+    (ready-reads (ready-reads (ready-pass c.loop-t.invariant.0 refl c.peek-t.ensures (λ z. omega (arith, c.if-t-ne-SIGNAL.false, z))) (d [])) o, (λ q l v i. c.loop-t.invariant.1 q l v (signals_more c.loop-t.invariant.0.inside refl c.peek-t.ensures _ c.if-t-ne-SIGNAL.false refl (d _) o i)), search rules)

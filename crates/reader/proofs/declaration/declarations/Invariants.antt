@@ -4,14 +4,14 @@ use Prim.Native.Nat.{ℕ, ◌-◌}
 use mathlib.Core.Path.{◌≡◌}
 use mathlib.Core.List.{List}
 use lib.ListN.{length}
-use Rattle.reading.specs.declared.Spot.{Spot}
+use Rattle.reading.specs.Inside.Spots.{Reached, at_spot}
 use Rattle.syntax.proofs.Rows.{signals}
 use Rattle.emission.specs.Inside.Draft.{declarations_draft}
 use Rattle.reading.specs.Inside.Reading.{Ready, Reads, whole, signals_roles}
 use Rattle.reader.proofs.declaration.declarations.Given as goal
 
-abbrev pub invariant-loop-p : goal.invariant-loop-p
-invariant-loop-p z = Ready 0 z.text z.p z.ledger × ((q : Spot) (l v : List ℕ) → Reads (whole signals signals_roles declarations_draft) z.text 32 z.p q z.ledger l z.table v → Reads (whole signals signals_roles declarations_draft) z.text 32 z.initial.p q z.initial.ledger l z.initial.table v) × (length z.table ≡ length z.initial.table)
+abbrev pub invariant-loop-t : goal.invariant-loop-t
+invariant-loop-t z = Ready 0 z.text (at_spot z.p) z.ledger × ((q : Reached) (l v : List ℕ) → Reads (whole signals signals_roles declarations_draft) z.text 32 (at_spot z.p) q z.ledger l z.table v → Reads (whole signals signals_roles declarations_draft) z.text 32 (at_spot z.initial.p) q z.initial.ledger l z.initial.table v) × (length z.table ≡ length z.initial.table)
 
-abbrev pub decreases-loop-p : goal.decreases-loop-p
-decreases-loop-p l = length l.text - l.p.at
+abbrev pub decreases-loop-t : goal.decreases-loop-t
+decreases-loop-t l = length l.text - l.p.at

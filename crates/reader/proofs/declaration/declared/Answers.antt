@@ -1,22 +1,18 @@
 -- `reader::declaration::declared` meets its contract: each return by its law.
 -- Assumes nothing.
+use mathlib.Core.Path.{refl}
+use mathlib.Core.List.{[]}
 use native.Mathlib.Omega.{arith}
 use Rattle.names.specs.Roles.{declares}
-use Rattle.reading.proofs.Generic.{reads-off, span}
+use Rattle.reading.proofs.Generic.{reads-ends, span}
 use Rattle.reader.proofs.Declarations.{name-read, name-unfit}
 use Rattle.reader.proofs.declaration.declared.Goals as goal
 
-pub returns-then-p-ne0 : goal.returns-then-p-ne0
-returns-then-p-ne0 c = λ v. reads-off _ c.requires.inside c.if-p-ne0.true
-
-pub peek-t-requires : goal.peek-t-requires
-peek-t-requires c = c.requires.inside
-
-pub returns-then-t-ne-NAME : goal.returns-then-t-ne-NAME
-returns-then-t-ne-NAME c = λ v. name-unfit c.requires.inside c.if-p-ne0.false c.peek-t.ensures declares _ c.if-t-ne-NAME.true
+pub returns-in_err-t : goal.returns-in_err-t
+returns-in_err-t c = let k = c.in_err-t.ensures in λ v. reads-ends {n = 0} {l' = []} {v' = v} c.from_residual.result _ c.from_residual.ensures.1 (rw k.1 (name-unfit c.requires.inside refl refl declares 0 k.0))
 
 pub declare-requires : goal.declare-requires
-declare-requires c = record { sound = c.requires.sound c.if-p-ne0.false; span = span c.requires.inside c.peek-t.ensures (λ z. omega (arith, c.if-t-ne-NAME.false, z)) }
+declare-requires c = let k = c.in_ok-t.ensures in record { sound = c.requires.sound refl; span = span c.requires.inside k.0 (λ z. omega (arith, k.1, z)) }
 
 pub returns : goal.returns
-returns c = λ v. name-read c.requires.inside c.if-p-ne0.false c.peek-t.ensures declares c.if-t-ne-NAME.false c.declare.ensures
+returns c = let k = c.in_ok-t.ensures in rw c.past.ensures (λ v. name-read c.requires.inside refl k.0 declares k.1 c.declare.ensures)

@@ -7,36 +7,45 @@ use mathlib.Core.List.{[]}
 use Rattle.words.specs.Token.{COLON, BOOLEAN}
 use Rattle.look.proofs.Looks.{seen-there}
 use Rattle.reading.proofs.Words.{worded}
-use Rattle.reading.proofs.Generic.{reads-off, ready-pass, ready-reads}
+use Rattle.reading.proofs.Generic.{numbered, word-off, reads-stays, reads-ends, ready-pass, ready-reads}
 use Rattle.reader.proofs.Declarations.{more_typed, more_comma}
 use Rattle.reader.proofs.declaration.more_signals.Goals as goal
 
-pub loop-p-init : goal.loop-p-init
-loop-p-init c = (c.requires, (λ q l v d. d), refl)
+pub returns-in_err-a : goal.returns-in_err-a
+returns-in_err-a c =
+    let w = worded COLON c.loop-t.invariant.0.inside c.in_err-a.ensures in
+    let no = numbered c.in_err-a.field-0.0 in
+    reads-ends c.from_residual.result _ c.from_residual.ensures.1 (c.loop-t.invariant.1 _ _ _ (more_typed c.loop-t.invariant.0.inside refl c.peek-t.ensures _ c.if-t-ne-COMMA.true c.in_err-a.ensures (word-off _ _ _ no) (reads-stays _ w.inside no)))
 
-pub peek-t-requires : goal.peek-t-requires
-peek-t-requires c = c.loop-p.invariant.0.inside
+pub word-requires-then-t-ne-COMMA : goal.word-requires-then-t-ne-COMMA
+word-requires-then-t-ne-COMMA c = (worded COLON c.loop-t.invariant.0.inside c.in_ok-a.ensures).inside
 
-pub word-a-requires : goal.word-a-requires
-word-a-requires c = c.loop-p.invariant.0.inside
-
-pub word-b-requires : goal.word-b-requires
-word-b-requires c = (worded COLON c.loop-p.invariant.0.inside c.word-a.ensures).inside
+pub returns-in_err-b : goal.returns-in_err-b
+returns-in_err-b c =
+    let w = worded BOOLEAN (worded COLON c.loop-t.invariant.0.inside c.in_ok-a.ensures).inside c.in_err-b.ensures in
+    reads-ends c.from_residual-in_err-b.result _ c.from_residual-in_err-b.ensures.1 (c.loop-t.invariant.1 _ _ _ (more_typed c.loop-t.invariant.0.inside refl c.peek-t.ensures _ c.if-t-ne-COMMA.true c.in_ok-a.ensures c.in_err-b.ensures (reads-stays _ w.inside (numbered c.in_err-b.field-0.0))))
 
 pub initial-requires : goal.initial-requires
-initial-requires c = (worded BOOLEAN (worded COLON c.loop-p.invariant.0.inside c.word-a.ensures).inside c.word-b.ensures).inside
+initial-requires c = (worded BOOLEAN (worded COLON c.loop-t.invariant.0.inside c.in_ok-a.ensures).inside c.in_ok-b.ensures).inside
 
 pub returns-then-t-ne-COMMA : goal.returns-then-t-ne-COMMA
-returns-then-t-ne-COMMA c = c.loop-p.invariant.1 _ _ _ (more_typed c.loop-p.invariant.0.inside c.loop-p-test.true c.peek-t.ensures _ c.if-t-ne-COMMA.true c.word-a.ensures c.word-b.ensures (c.initial.ensures _ refl))
+returns-then-t-ne-COMMA c = c.loop-t.invariant.1 _ _ _ (more_typed c.loop-t.invariant.0.inside refl c.peek-t.ensures _ c.if-t-ne-COMMA.true c.in_ok-a.ensures c.in_ok-b.ensures (c.initial.ensures _ refl))
 
-pub declared-p-requires : goal.declared-p-requires
-declared-p-requires c = ready-pass c.loop-p.invariant.0 c.loop-p-test.true c.peek-t.ensures (λ z. omega (arith, c.if-t-ne-COMMA.false, z))
+pub declared-requires : goal.declared-requires
+declared-requires c = rw c.past.ensures (ready-pass c.loop-t.invariant.0 refl c.peek-t.ensures (λ z. omega (arith, c.if-t-ne-COMMA.false, z)))
 
-pub loop-p-smaller : goal.loop-p-smaller
-loop-p-smaller c = let x = seen-there c.loop-p.invariant.0.inside c.peek-t.ensures (λ z. omega (arith, c.if-t-ne-COMMA.false, z)) in omega (arith, x.after, x.some, (c.declared-p.ensures []).ahead, (c.declared-p.ensures []).inside)
+pub returns-in_err-p : goal.returns-in_err-p
+returns-in_err-p c =
+    let d = (rw c.past.ensures at c.in_err-p.ensures) c.loop-t.table in
+    reads-ends c.from_residual-in_err-p.result _ c.from_residual-in_err-p.ensures.1 (c.loop-t.invariant.1 _ _ _ (more_comma c.loop-t.invariant.0.inside refl c.peek-t.ensures _ c.if-t-ne-COMMA.false d (reads-stays _ d.inside (numbered c.in_err-p.field-0.0))))
 
-pub loop-p-preserved : goal.loop-p-preserved
-loop-p-preserved c = (ready-reads (ready-pass c.loop-p.invariant.0 c.loop-p-test.true c.peek-t.ensures (λ z. omega (arith, c.if-t-ne-COMMA.false, z))) (c.declared-p.ensures []), (λ q l v d. c.loop-p.invariant.1 q l v (more_comma c.loop-p.invariant.0.inside c.loop-p-test.true c.peek-t.ensures _ c.if-t-ne-COMMA.false (c.declared-p.ensures _) d)), search rules)
+pub loop-t-smaller : goal.loop-t-smaller
+loop-t-smaller c =
+    let x = seen-there c.loop-t.invariant.0.inside c.peek-t.ensures (λ z. omega (arith, c.if-t-ne-COMMA.false, z)) in
+    let d = (rw c.past.ensures at c.in_ok-p.ensures) [] in
+    omega (arith, x.after, x.some, d.ahead, d.inside)
 
-pub returns : goal.returns
-returns c = c.loop-p.invariant.1 _ _ _ (reads-off _ c.loop-p.invariant.0.inside c.loop-p-test.false)
+pub loop-t-preserved : goal.loop-t-preserved
+loop-t-preserved c =
+    let d = rw c.past.ensures at c.in_ok-p.ensures in
+    (ready-reads (ready-pass c.loop-t.invariant.0 refl c.peek-t.ensures (λ z. omega (arith, c.if-t-ne-COMMA.false, z))) (d []), (λ q l v o. c.loop-t.invariant.1 q l v (more_comma c.loop-t.invariant.0.inside refl c.peek-t.ensures _ c.if-t-ne-COMMA.false (d _) o)), search rules)

@@ -1,25 +1,16 @@
 -- `reader::design::closing` meets its contract: each return by its law.
 -- Assumes nothing.
-use mathlib.Core.Path.{sym, ◌∙◌}
+use mathlib.Core.Path.{refl, sym, ◌∙◌}
 use native.Mathlib.Omega.{arith}
-use Rattle.reading.proofs.Generic.{reads-off, ready-pass}
+use Rattle.reading.proofs.Generic.{ready-pass}
 use Rattle.reader.proofs.Processes.{part-plain, part-word}
 use Rattle.reader.proofs.design.closing.Goals as goal
 
-pub returns-then-p-ne0 : goal.returns-then-p-ne0
-returns-then-p-ne0 c = λ u k v. reads-off _ c.requires.0.inside c.if-p-ne0.true
-
-pub peek-t-requires : goal.peek-t-requires
-peek-t-requires c = c.requires.0.inside
-
-pub closing_name-requires : goal.closing_name-requires
-closing_name-requires c = (c.requires.0, c.requires.1)
-
 pub returns-then-t-kind : goal.returns-then-t-kind
-returns-then-t-kind c = λ u k v. part-plain c.requires.0.inside c.if-p-ne0.false c.peek-t.ensures u (λ z. c.if-t-kind.true (z ∙ sym k)) (c.closing_name.ensures v)
+returns-then-t-kind c = λ u k v. part-plain c.requires.0.inside refl c.peek-t.ensures u (λ z. c.if-t-kind.true (z ∙ sym k)) (c.closing_name.ensures v)
 
 pub closing_name-requires-2 : goal.closing_name-requires-2
-closing_name-requires-2 c = (ready-pass c.requires.0 c.if-p-ne0.false c.peek-t.ensures (λ z. omega (arith, c.if-t-kind.false, c.requires.2, z)), c.requires.1)
+closing_name-requires-2 c = (rw c.past.ensures (ready-pass c.requires.0 refl c.peek-t.ensures (λ z. omega (arith, c.if-t-kind.false, c.requires.2, z))), c.requires.1)
 
 pub returns : goal.returns
-returns c = λ u k v. part-word c.requires.0.inside c.if-p-ne0.false c.peek-t.ensures u (c.if-t-kind.false ∙ k) (λ z. omega (arith, c.if-t-kind.false, c.requires.2, z)) (c.closing_name-2.ensures v)
+returns c = λ u k v. part-word c.requires.0.inside refl c.peek-t.ensures u (c.if-t-kind.false ∙ k) (λ z. omega (arith, c.if-t-kind.false, c.requires.2, z)) ((rw c.past.ensures at c.closing_name-2.ensures) v)

@@ -1,19 +1,20 @@
 -- `reader::design::judged` meets its contract: each return by its law.
 -- Assumes nothing.
-use Rattle.reader.proofs.Answering.{answer-deep, answer-stuck, answer-judged, answer-accepted}
+use mathlib.Core.Path.{refl}
+use Rattle.std.proofs.lemmas.Result.{err_from_is_err_and}
+use Rattle.reader.proofs.Answering.{answer-refused, answer-judged, none-judged, answer-accepted}
 use Rattle.reader.proofs.design.judged.Goals as goal
 
-pub design-q-requires : goal.design-q-requires
-design-q-requires c = record { judgement = _; keeps = c.requires.1 }
+pub design-requires : goal.design-requires
+design-requires c = record { judgement = _; keeps = c.requires.1 }
 
-pub returns-then-q-eq4 : goal.returns-then-q-eq4
-returns-then-q-eq4 c = answer-deep c.args.text.now c.requires.0 c.design-q.ensures c.if-q-eq4.true
+pub returns-in_err-design : goal.returns-in_err-design
+returns-in_err-design c =
+    let e = err_from_is_err_and c.from_residual.result c.from_residual.ensures.1 in
+    rw (e.1, e.2) (answer-refused c.args.text.now c.requires.0 c.in_err-design.field-0.0 c.in_err-design.ensures)
 
-pub returns-then-q-ne0 : goal.returns-then-q-ne0
-returns-then-q-ne0 c = answer-stuck c.args.text.now c.requires.0 c.design-q.ensures c.if-q-eq4.false c.if-q-ne0.true
+pub returns-in-Ok : goal.returns-in-Ok
+returns-in-Ok c = answer-judged c.args.text.now c.requires.0 c.in_ok-design.ensures refl c.requires.1 c.in-Ok.reason c.in-Ok.ensures
 
-pub returns-then-ledger-ne0 : goal.returns-then-ledger-ne0
-returns-then-ledger-ne0 c = answer-judged c.args.text.now c.requires.0 c.design-q.ensures c.if-q-ne0.false c.requires.1 c.if-ledger-ne0.true
-
-pub returns : goal.returns
-returns c = answer-accepted c.args.text.now c.requires.0 c.design-q.ensures c.if-q-ne0.false c.requires.1 c.if-ledger-ne0.false
+pub returns-in-Err : goal.returns-in-Err
+returns-in-Err c = let a = none-judged c.args.text.now c.requires.0 c.in_ok-design.ensures refl c.requires.1 c.in-Err.ensures.1 in answer-accepted c.args.text.now c.requires.0 c.in_ok-design.ensures refl c.requires.1 a

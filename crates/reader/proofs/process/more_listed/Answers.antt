@@ -4,30 +4,28 @@ use mathlib.Core.Path.{refl}
 use native.Mathlib.Omega.{arith}
 use borrow.Author.Rules.{rules}
 use Rattle.look.proofs.Looks.{seen-there}
-use Rattle.reading.proofs.Generic.{reads-off, ready-pass, ready-reads}
+use Rattle.reading.proofs.Generic.{numbered, reads-stays, reads-ends, ready-pass, ready-reads}
 use Rattle.reader.proofs.Processes.{listed_end, listed_comma}
 use Rattle.reader.proofs.process.more_listed.Goals as goal
 
-pub loop-p-init : goal.loop-p-init
-loop-p-init c = (c.requires, (λ q l v d. d), refl)
-
-pub peek-t-requires : goal.peek-t-requires
-peek-t-requires c = c.loop-p.invariant.0.inside
-
-pub word-requires : goal.word-requires
-word-requires c = c.loop-p.invariant.0.inside
-
 pub returns-then-t-ne-COMMA : goal.returns-then-t-ne-COMMA
-returns-then-t-ne-COMMA c = c.loop-p.invariant.1 _ _ _ (listed_end c.loop-p.invariant.0.inside c.loop-p-test.true c.peek-t.ensures c.if-t-ne-COMMA.true c.word.ensures)
+returns-then-t-ne-COMMA c = c.loop-t.invariant.1 _ _ _ (listed_end c.loop-t.invariant.0.inside refl c.peek-t.ensures c.if-t-ne-COMMA.true c.word.ensures)
 
-pub listened-p-requires : goal.listened-p-requires
-listened-p-requires c = ready-pass c.loop-p.invariant.0 c.loop-p-test.true c.peek-t.ensures (λ z. omega (arith, c.if-t-ne-COMMA.false, z))
+pub listened-requires : goal.listened-requires
+listened-requires c = rw c.past.ensures (ready-pass c.loop-t.invariant.0 refl c.peek-t.ensures (λ z. omega (arith, c.if-t-ne-COMMA.false, z)))
 
-pub loop-p-smaller : goal.loop-p-smaller
-loop-p-smaller c = let x = seen-there c.loop-p.invariant.0.inside c.peek-t.ensures (λ z. omega (arith, c.if-t-ne-COMMA.false, z)) in omega (arith, x.after, x.some, c.listened-p.ensures.ahead, c.listened-p.ensures.inside)
+pub returns-in_err-p : goal.returns-in_err-p
+returns-in_err-p c =
+    let d = rw c.past.ensures at c.in_err-p.ensures in
+    reads-ends c.from_residual.result _ c.from_residual.ensures.1 (c.loop-t.invariant.1 _ _ _ (listed_comma c.loop-t.invariant.0.inside refl c.peek-t.ensures c.if-t-ne-COMMA.false d (reads-stays _ d.inside (numbered c.in_err-p.field-0.0))))
 
-pub loop-p-preserved : goal.loop-p-preserved
-loop-p-preserved c = (ready-reads (ready-pass c.loop-p.invariant.0 c.loop-p-test.true c.peek-t.ensures (λ z. omega (arith, c.if-t-ne-COMMA.false, z))) c.listened-p.ensures, (λ q l v d. c.loop-p.invariant.1 q l v (listed_comma c.loop-p.invariant.0.inside c.loop-p-test.true c.peek-t.ensures c.if-t-ne-COMMA.false c.listened-p.ensures d)), search rules)
+pub loop-t-smaller : goal.loop-t-smaller
+loop-t-smaller c =
+    let x = seen-there c.loop-t.invariant.0.inside c.peek-t.ensures (λ z. omega (arith, c.if-t-ne-COMMA.false, z)) in
+    let d = rw c.past.ensures at c.in_ok-p.ensures in
+    omega (arith, x.after, x.some, d.ahead, d.inside)
 
-pub returns : goal.returns
-returns c = c.loop-p.invariant.1 _ _ _ (reads-off _ c.loop-p.invariant.0.inside c.loop-p-test.false)
+pub loop-t-preserved : goal.loop-t-preserved
+loop-t-preserved c =
+    let d = rw c.past.ensures at c.in_ok-p.ensures in
+    (ready-reads (ready-pass c.loop-t.invariant.0 refl c.peek-t.ensures (λ z. omega (arith, c.if-t-ne-COMMA.false, z))) d, (λ q l v o. c.loop-t.invariant.1 q l v (listed_comma c.loop-t.invariant.0.inside refl c.peek-t.ensures c.if-t-ne-COMMA.false d o)), search rules)

@@ -1,26 +1,18 @@
--- `words::vocabulary::same_word` meets its contract: the words are the same from place i on.
+-- `words::vocabulary::same_word` meets its contract: byte by byte from the end, in lower case.
 -- Assumes nothing.
-use Prim.Native.Nat.{◌-◌}
-use mathlib.Core.Path.{◌∙◌, sym, ap}
-use borrow.Author.Rules.{rules}
-use Rattle.words.specs.Vocabulary.{lower_of}
-use Rattle.words.proofs.Same.{same_lengths, same_off, same_none, same_on, same_all}
+use Rattle.std.proofs.Common.{rules, tests, ◌∙◌}
+use Rattle.std.proofs.lemmas.Iterator.{YieldsList-from_zip}
+use Rattle.std.proofs.lemmas.Iterator.Consumers.{YieldsList-at}
+use Rattle.std.proofs.lemmas.Iterator.Adapters.{YieldsList-from_rev_slice}
+use Rattle.std.proofs.lemmas.Iterator.Search.{all_from_yields_List}
+use borrow.Author.Tests.{ne_eqb}
+use Rattle.words.proofs.Same.{alike, same_lengths, same_back}
 use Rattle.words.proofs.vocabulary.same_word.Goals as goal
 
 pub returns-then-one-other : goal.returns-then-one-other
-returns-then-one-other c = same_lengths c.args.one.now c.args.other.now c.if-one-other.true
+returns-then-one-other c =
+    let road = YieldsList-from_zip (YieldsList-at c.zip.ensures.first (YieldsList-from_rev_slice c.args.one.now cc)) (YieldsList-at c.zip.ensures.second (YieldsList-from_rev_slice c.args.other.now cc)) in
+    all_from_yields_List alike c.all.new.self _ _ c.all.ensures.ran road (λ x b q k. search (rules, tests)) ∙ same_back c.args.one.now c.args.other.now c.if-one-other.true
 
-pub loop-i-init : goal.loop-i-init
-loop-i-init c = (search rules, c.if-one-other.false, same_none c.args.one.now c.args.other.now c.if-one-other.false)
-
-pub returns-then-lower : goal.returns-then-lower
-returns-then-lower c = same_off c.args.one.now c.args.other.now (c.loop-i.i - 1) (λ e. c.if-lower.true (c.lower.ensures ∙ e ∙ sym c.lower-then-one-i.ensures))
-
-pub loop-i-preserved-else-lower : goal.loop-i-preserved-else-lower
-loop-i-preserved-else-lower c = (search rules, c.loop-i.invariant.1, same_on c.args.one.now c.args.other.now c.loop-i.invariant.1 c.loop-i.i c.loop-i-test.true c.loop-i.invariant.0 (sym c.lower.ensures ∙ c.if-lower.false ∙ c.lower-then-one-i.ensures) c.loop-i.invariant.2)
-
-pub loop-i-preserved : goal.loop-i-preserved
-loop-i-preserved c = (search rules, c.loop-i.invariant.1, same_on c.args.one.now c.args.other.now c.loop-i.invariant.1 c.loop-i.i c.loop-i-test.true c.loop-i.invariant.0 (ap lower_of c.if-one-i.false) c.loop-i.invariant.2)
-
-pub returns : goal.returns
-returns c = same_all c.args.one.now c.args.other.now c.loop-i.i c.loop-i-test.false c.loop-i.invariant.2
+pub returns-else-one-other : goal.returns-else-one-other
+returns-else-one-other c = rw (ne_eqb _ _ c.if-one-other.false) (same_lengths c.args.one.now c.args.other.now c.if-one-other.false)

@@ -1,0 +1,2 @@
+-- Laws of the kinds.
+pub mod Numbers

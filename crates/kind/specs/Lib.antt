@@ -1,0 +1,2 @@
+-- The twelve kinds of an instruction and their numbers.
+pub mod Numbers

@@ -1,8 +1,0 @@
--- `lexis::byte::byte_at` meets its contract: past the end a list has its default.
--- Assumes nothing.
-use mathlib.Core.Path.{sym}
-use lib.ListN.{get_or-eq_default}
-use Rattle.lexis.proofs.byte.byte_at.Goals as goal
-
-pub returns-else-i-text : goal.returns-else-i-text
-returns-else-i-text c = sym (get_or-eq_default c.args.text.now 0 c.if-i-text.false)

@@ -1,2 +1,0 @@
--- Definitions that only private contracts cite. Nobody has to believe them.
-pub mod Turns
