@@ -3,7 +3,6 @@
 use Rattle.std.specs.Prelude.{ℕ, ◌+◌, ◌*◌, ◌≤◌, ◌<◌, ◌≡◌, refl, List, [], ◌∷◌, length, Result, Ok, Err}
 use Rattle.std.proofs.lemmas.List.Edits.{sets}
 use Rattle.refusal.specs.declared.Reason.{Reason}
-use Rattle.refusal.specs.Numbers.{number_of}
 use Rattle.session.specs.declared.Answer.{Answer}
 use Rattle.session.specs.declared.Answer.TheVariants.{Quiet, StopReached, Moved as Moves}
 use Rattle.run.specs.Lent.{Starts, Advances}

@@ -5,7 +5,7 @@ ghost use Rattle.std.specs.Prelude.{◌≤◌};
 
 use heading::header;
 use player::play;
-use program::{read_full, say_refused, stop_words};
+use program::{print_refusal, read_full, stop_words};
 use reader::read;
 use std::io;
 
@@ -16,7 +16,7 @@ fn run(rt: &impl Print, text: &[u8], stop: u64) -> io::Result<()>
     let mut table = [0u64; 8387];
     match read(text, &mut table) {
         Ok(()) => play(rt, &table, stop),
-        Err(refusal) => say_refused(rt, refusal),
+        Err(refusal) => print_refusal(rt, refusal),
     }
 }
 
@@ -30,13 +30,13 @@ fn show(rt: &impl Print, text: &[u8], stop: u64) -> io::Result<()>
             rt.write_all(&out[..count])?;
             run(rt, text, stop)
         }
-        Err(refusal) => say_refused(rt, refusal),
+        Err(refusal) => print_refusal(rt, refusal),
     }
 }
 
 fn main(rt: HostRuntime) -> io::Result<()> {
     match stop_words(&rt) {
-        Err(reason) => say_refused(&rt, reason.into()),
+        Err(reason) => print_refusal(&rt, reason.into()),
         Ok(stop) => {
             let mut text = [0u8; 60001];
             let n = read_full(&mut rt.stdin(), &mut text)?;

@@ -40,7 +40,7 @@ impl Kind {
     }
 }
 
-// A number, 12 or above, that no kind has.
+// That no kind has a number: it is 12 or above.
 #[derive(Clone, Copy, Debug, PartialEq, Eq, Hash)]
 pub struct UnknownKind;
 

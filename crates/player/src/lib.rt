@@ -11,7 +11,7 @@ ghost use Rattle.machine.specs.Inside.Works.{Works};
 
 pub use gathered::Gathered;
 use machine::Machine;
-use program::say_refused;
+use program::print_refusal;
 use session::{Answer, begin, forward};
 use std::io;
 
@@ -34,7 +34,7 @@ fn go_on(
             Ok(_) => return gathered.flush(rt),
             Err(reason) => {
                 gathered.flush(rt)?;
-                return say_refused(rt, reason.into());
+                return print_refusal(rt, reason.into());
             }
         }
     }
@@ -53,7 +53,7 @@ fn play_machine(rt: &impl Print, machine: &Machine, stop: u64) -> io::Result<()>
             gathered.add(moved.bytes);
             go_on(rt, &mut cells, machine, stop, &mut gathered)
         }
-        Err(reason) => say_refused(rt, reason.into()),
+        Err(reason) => print_refusal(rt, reason.into()),
     }
 }
 

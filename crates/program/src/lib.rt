@@ -11,7 +11,7 @@ use std::io::Read;
 use stop::stop_of;
 
 // The line of a refusal, with its place where it has one.
-pub fn say_refused(rt: &impl Print, refusal: Refusal) -> io::Result<()> {
+pub fn print_refusal(rt: &impl Print, refusal: Refusal) -> io::Result<()> {
     println!(rt; "{refusal}")
 }
 

@@ -101,7 +101,7 @@ pub one_advance : (tb ws bs : List ℕ) (stop : ℕ) (r q : Result Answer Reason
 one_advance tb ws bs stop r q us vs cs ds a b =
     same a.says b.says (advance-once tb ws bs stop a.says b.says a.due b.due) ws bs r q us vs cs ds a.gives b.gives
 
--- what a start answers is one value too, as its answer is never quiet
+-- what a start answers is one value too: no two of its answers are the same among those of an advance
 pub one_started : (r q : Result Moved Reason) → started r ≡ started q → r ≡ q
 one_started (Ok a) (Ok b) e = cc
 one_started (Ok a) (Err b) e = absurd (cc e)

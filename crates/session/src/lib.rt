@@ -109,7 +109,7 @@ pub fn forward(
 }
 
 // A session: how many signals there are, the time, and in one array all that a run changes.
-// Kept: its methods take it by value and give back the session after it, as document 01 asks for.
+// Kept: what may not change, document 01's form for a call: its methods take the session by value and give back the session after it.
 #[derive(Clone, Copy)]
 pub struct Session {
     pub count: usize,

@@ -1,7 +1,7 @@
 // The lines of a trace, which are gathered.
 use itoa::Buffer;
 use player::Gathered;
-use program::say_refused;
+use program::print_refusal;
 use refusal::Refusal;
 use session::Moved;
 use std::io;
@@ -42,5 +42,5 @@ pub fn moved(lines: &mut Gathered, call: &[u8], moved: Moved) {
 pub fn refused(rt: &impl Print, call: &[u8], refusal: Refusal) -> io::Result<()> {
     rt.write_all(call)?;
     rt.write_all(b" ")?;
-    say_refused(rt, refusal)
+    print_refusal(rt, refusal)
 }

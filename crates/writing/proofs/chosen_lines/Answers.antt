@@ -11,8 +11,11 @@ line-place-requires-clause-at_in_bounds c =
     let a = c.args in
     let l = c.loop-signal in
     let goes = c.in-Some.ensures.steps in
-    omega (arith, chosen-place a.word a.cells.now a.out.now a.at l.out l.place l.signal-iterator.0 l.invariant goes,
-    (step a.word a.cells.now a.out.now a.at l.out l.place l.signal-iterator.0 l.invariant goes).inside)
+    omega (
+      arith,
+      chosen-place a.word a.cells.now a.out.now a.at l.out l.place l.signal-iterator.0 l.invariant goes,
+      (step a.word a.cells.now a.out.now a.at l.out l.place l.signal-iterator.0 l.invariant goes).inside,
+    )
 
 pub loop-signal-preserved : goal.loop-signal-preserved
 loop-signal-preserved c =
