@@ -2,7 +2,10 @@
 #![tactic(auto)]
 
 ghost use Rattle.std.specs.Prelude.{◌≡◌, ◌≤◌, length, set};
+ghost use Rattle.look.specs.Inside.Tokens.{number_of};
 ghost use Rattle.emission.specs.Inside.Draft.{placed, following, jump_word, aimed, bit_of, with_bit, waking, ended, begun, cleared, binary_kind};
+
+use look::token::Token;
 
 fn write(table: &mut [u64], at: usize, word: u64)
     ensures { table.new ≡ set table.old at word }
@@ -49,26 +52,24 @@ pub fn aim(table: &mut [u64], n: usize, kind: u64, target: usize)
 }
 
 // The operation of a binary word.
-// Kept: what may not change, this function, which answers for every number; an enum of the six words would ask more of its callers.
-pub fn binary(kind: usize) -> u64
-    ensures { result ≡ binary_kind kind }
+pub fn binary(word: Token) -> u64
+    ensures { result ≡ binary_kind (number_of word) }
 {
-    match kind {
-        16 => 5,
-        17 => 6,
-        18 => 3,
-        19 => 4,
-        20 => 7,
+    match word {
+        Token::Nand => 5,
+        Token::Nor => 6,
+        Token::And => 3,
+        Token::Or => 4,
+        Token::Xor => 7,
         _ => 8,
     }
 }
 
-// The signals from one number up to another start as `true` where that word (22) is given.
-// Kept: what may not change, this function, which answers for every number; a flag for the one word would leave the test to its caller.
-pub fn start_values(table: &mut [u64], from: usize, to: usize, kind: usize)
-    ensures { table.new ≡ begun table.old from to kind }
+// The signals from one number up to another start as `true` where that word is given.
+pub fn start_values(table: &mut [u64], from: usize, to: usize, word: Token)
+    ensures { table.new ≡ begun table.old from to (number_of word) }
 {
-    if kind != 22 || 64 < to {
+    if word != Token::True || 64 < to {
         return;
     }
     for k in from..to {

@@ -24,7 +24,7 @@ use Rattle.table.specs.Instructions.{Instruction}
 use Rattle.layout.specs.TableWords.{operation_word}
 use Rattle.emission.specs.Inside.Draft.{placed, following, binary_kind, put, primary_draft, factor_draft}
 use Rattle.look.specs.declared.Look.{Look}
-use Rattle.look.specs.Inside.Looks.{part, name_at, look_of, token_of_kind, token_of_look, once_of, chain_of, literal_of}
+use Rattle.look.specs.Inside.Looks.{kind_seen, part, name_at, look_of, token_of_kind, token_of_look, once_of, chain_of, literal_of}
 use Rattle.look.proofs.Looks.{seen, seen-there}
 use Rattle.look.proofs.Numbers.{chain_kind, chain-kind, misfit, once-token, chain-token, literal-token, name-seen, fixed-seen}
 use Rattle.ledger.specs.Inside.Standing.{Judges, Numbers}
@@ -80,7 +80,7 @@ bracket_step = record { push = expression_at in_brackets ∷ []; build = λ ws. 
 module _ {s : List ℕ} {room : ℕ} {p : Reached} {l v : List ℕ} {t : Look} (h : p.at ≤ length s) (f : p.number ≡ 0) (e : t ≡ look_of s p.at) where
   -- PRIMARY
 
-  pub primary-name : {l' v' : List ℕ} {n k : ℕ} → t.kind ≡ 108 → Judges 0 0 s (reads (name_at s t.start t.end)) t.start l l'
+  pub primary-name : {l' v' : List ℕ} {n k : ℕ} → kind_seen t ≡ 108 → Judges 0 0 s (reads (name_at s t.start t.end)) t.start l l'
       → Numbers s l (name_at s t.start t.end) k → n ≡ following p.next → v' ≡ placed v p.next (16 * k) 0 → Reads primary s room p (past t n) l l' v v'
   primary-name {n = n} {k = i} k g r a w =
       let x = seen-there h e (λ z. omega arith) in
@@ -94,24 +94,24 @@ module _ {s : List ℕ} {room : ℕ} {p : Reached} {l v : List ℕ} {t : Look} (
             (λ y y' o d q. ap (λ j. put (Instruction.name j) (drafted y v p.next)) (sym (r.number_is y o)) ∙ ap (put (Instruction.name i)) q ∙ put-drafted (Instruction.name i) y' p.next v a (w ∙ ap (λ j. placed v p.next j 0) (named-operation i)));
       }
 
-  pub primary-literal : {l' v' : List ℕ} {n o : ℕ} → 22 ≤ t.kind → t.kind < 24 → Judges 0 0 s (counts 1) t.start l l'
-      → o ≡ operation_word (Instruction.literal (literal_of t.kind)) → n ≡ following p.next → v' ≡ placed v p.next o 0 → Reads primary s room p (past t n) l l' v v'
+  pub primary-literal : {l' v' : List ℕ} {n o : ℕ} → 22 ≤ kind_seen t → kind_seen t < 24 → Judges 0 0 s (counts 1) t.start l l'
+      → o ≡ operation_word (Instruction.literal (literal_of (kind_seen t))) → n ≡ following p.next → v' ≡ placed v p.next o 0 → Reads primary s room p (past t n) l l' v v'
   primary-literal {n = n} lo hi g i a w =
       let x = seen-there h e (λ z. omega arith) in
       record {
-        tree = constant (literal_of t.kind);
+        tree = constant (literal_of (kind_seen t));
         fine = λ _. f;
         ahead = omega (arith, x.after, x.some);
         inside = x.inside;
-        moves = λ c ss m u. some_moves s p f n a_primary x record { push = []; build = λ _. constant (literal_of t.kind) }
-            (ap (next a_primary) (literal-token (part s t.start t.end) t.kind lo hi)) ss m (omega arith);
-        judges = λ _. put-judged (token-judged x (counts 1) g) (Instruction.literal (literal_of t.kind)) a (w ∙ ap (λ j. placed v p.next j 0) i);
+        moves = λ c ss m u. some_moves s p f n a_primary x record { push = []; build = λ _. constant (literal_of (kind_seen t)) }
+            (ap (next a_primary) (literal-token (part s t.start t.end) (kind_seen t) lo hi)) ss m (omega arith);
+        judges = λ _. put-judged (token-judged x (counts 1) g) (Instruction.literal (literal_of (kind_seen t))) a (w ∙ ap (λ j. placed v p.next j 0) i);
       }
 
-  pub primary-none : {l' v' : List ℕ} (n : ℕ) → (t.kind ≡ 108 → ⊥) → (t.kind ≡ 22 → ⊥) → (t.kind ≡ 23 → ⊥) → (t.kind ≡ 110 → ⊥) → Reads primary s room p (unfit t n) l l' v v'
-  primary-none n a b c d = reads-stuck primary h f e (λ _ small. rw (ne_eqb t.kind 108 a, literal-not t.kind b c, ne_eqb t.kind 110 d))
+  pub primary-none : {l' v' : List ℕ} (n : ℕ) → (kind_seen t ≡ 108 → ⊥) → (kind_seen t ≡ 22 → ⊥) → (kind_seen t ≡ 23 → ⊥) → (kind_seen t ≡ 110 → ⊥) → Reads primary s room p (unfit t n) l l' v v'
+  primary-none n a b c d = reads-stuck primary h f e (λ _ small. rw (ne_eqb (kind_seen t) 108 a, literal-not (kind_seen t) b c, ne_eqb (kind_seen t) 110 d))
 
-  pub primary-deep : {l' v' : List ℕ} (n : ℕ) → t.kind ≡ 110 → room ≡ 0 → Reads primary s room p (deep t n) l l' v v'
+  pub primary-deep : {l' v' : List ℕ} (n : ℕ) → kind_seen t ≡ 110 → room ≡ 0 → Reads primary s room p (deep t n) l l' v v'
   primary-deep n k z =
       let x = seen-there h e (λ z. omega arith) in
       record {
@@ -123,7 +123,7 @@ module _ {s : List ℕ} {room : ℕ} {p : Reached} {l v : List ℕ} {t : Look} (
         judges = λ z. absurd (omega (arith, z));
       }
 
-  pub primary_bracket : {q r : Reached} {l' v' : List ℕ} → t.kind ≡ 110 → (room ≡ 0 → ⊥) → Reads an_expression s (room - 1) (past t p.next) q l l' v v' → r ≡ word_of s q 111
+  pub primary_bracket : {q r : Reached} {l' v' : List ℕ} → kind_seen t ≡ 110 → (room ≡ 0 → ⊥) → Reads an_expression s (room - 1) (past t p.next) q l l' v v' → r ≡ word_of s q 111
       → Reads primary s room p r l l' v v'
   primary_bracket {q} k z d e2 =
       let x = seen-there h e (λ z. omega arith) in
@@ -141,7 +141,7 @@ module _ {s : List ℕ} {room : ℕ} {p : Reached} {l v : List ℕ} {t : Look} (
 
   -- FACTOR
 
-  pub factor-plain : {q : Reached} {l' v' : List ℕ} → (t.kind ≡ 15 → ⊥) → Reads primary s room p q l l' v v' → Reads factor s room p q l l' v v'
+  pub factor-plain : {q : Reached} {l' v' : List ℕ} → (kind_seen t ≡ 15 → ⊥) → Reads primary s room p q l l' v v' → Reads factor s room p q l l' v v'
   factor-plain {q} k d =
       record {
         tree = plain d.tree;
@@ -149,12 +149,12 @@ module _ {s : List ℕ} {room : ℕ} {p : Reached} {l v : List ℕ} {t : Look} (
         ahead = d.ahead;
         inside = d.inside;
         moves = λ c ss m u. same_moves s p f 0 a_factor (seen h e) a_primary ss ss m (λ vs. m (plain vs.0, vs.1))
-            (λ small ts. missing.factor-plain (token_of_look s t) ts ss (misfit (part s t.start t.end) t.kind small (the_fixed NOT) (ne_eqb t.kind 15 k)) m)
+            (λ small ts. missing.factor-plain (token_of_look s t) ts ss (misfit (part s t.start t.end) (kind_seen t) small (the_fixed NOT) (ne_eqb (kind_seen t) 15 k)) m)
             ∙ d.moves c ss (λ vs. m (plain vs.0, vs.1)) (omega arith);
         judges = d.judges;
       }
 
-  pub factor-not : {m : ℕ} {q : Reached} {l1 l2 v1 v2 : List ℕ} → t.kind ≡ 15 → Judges 0 0 s (counts 1) t.start l l1 → Reads primary s room (past t p.next) q l1 l2 v v1
+  pub factor-not : {m : ℕ} {q : Reached} {l1 l2 v1 v2 : List ℕ} → kind_seen t ≡ 15 → Judges 0 0 s (counts 1) t.start l l1 → Reads primary s room (past t p.next) q l1 l2 v v1
       → m ≡ following q.next → v2 ≡ placed v1 q.next 2 0 → Reads factor s room p (addressed q m) l l2 v v2
   factor-not {m} {q} k g d a w =
       let x = seen-there h e (λ z. omega arith) in
@@ -194,7 +194,7 @@ expression_then {s} {room} {p} a b =
 -- TAIL AND CHAIN
 
 module _ {s : List ℕ} {room : ℕ} {p : Reached} {l v : List ℕ} {t : Look} (h : p.at ≤ length s) (f : p.number ≡ 0) (e : t ≡ look_of s p.at) where
-  tail_none : (within 16 17 t.kind ≡ false) → (within 18 21 t.kind ≡ false) → Reads a_tail s room p p l l v v
+  tail_none : (within 16 17 (kind_seen t) ≡ false) → (within 18 21 (kind_seen t) ≡ false) → Reads a_tail s room p p l l v v
   tail_none a b =
       record {
         tree = alone;
@@ -202,61 +202,64 @@ module _ {s : List ℕ} {room : ℕ} {p : Reached} {l v : List ℕ} {t : Look} (
         ahead = omega arith;
         inside = h;
         moves = λ c ss k u. same_moves s p f 0 (tail_at c) (seen h e) (an_end c) ss ss k (λ vs. k ((alone, vs.0), vs.1))
-            (λ small ts. missing.tail-alone (token_of_look s t) ts ss c (misfit (part s t.start t.end) t.kind small any_once a) (misfit (part s t.start t.end) t.kind small any_chain b) k);
+            (λ small ts. missing.tail-alone (token_of_look s t) ts ss c (misfit (part s t.start t.end) (kind_seen t) small any_once a) (misfit (part s t.start t.end) (kind_seen t) small any_chain b) k);
         judges = λ z. none-judged;
       }
 
-  pub tail-low : t.kind < 16 → Reads a_tail s room p p l l v v
-  tail-low a = tail_none (within-below 16 17 t.kind a) (within-below 18 21 t.kind (omega arith))
+  -- no binary word
+  pub tail-not : within 16 21 (kind_seen t) ≡ false → Reads a_tail s room p p l l v v
+  tail-not a = go (ranged 16 21 (kind_seen t))
+    where
+      go : Ranged 16 21 (kind_seen t) → Reads a_tail s room p p l l v v
+      go (below _ b) = tail_none (within-below 16 17 (kind_seen t) b) (within-below 18 21 (kind_seen t) (omega arith))
+      go (inside b _ _) = let z : ◌≡◌ {A = Bool} true false = sym b ∙ a in let o : ◌≡◌ {A = ℕ} 0 1 = cc in absurd (omega arith)
+      go (above _ b) = tail_none (within-above 16 17 (kind_seen t) (omega arith)) (within-above 18 21 (kind_seen t) b)
 
-  pub tail-high : 22 ≤ t.kind → Reads a_tail s room p p l l v v
-  tail-high a = tail_none (within-above 16 17 t.kind (omega arith)) (within-above 18 21 t.kind a)
-
-  pub tail-once : {m o : ℕ} {q : Reached} {l1 l2 v1 v2 : List ℕ} → 16 ≤ t.kind → t.kind < 18 → Judges 0 0 s (counts 1) t.start l l1 → Reads factor s room (past t p.next) q l1 l2 v v1
-      → m ≡ following q.next → o ≡ binary_kind t.kind → v2 ≡ placed v1 q.next o 0 → Reads a_tail s room p (addressed q m) l l2 v v2
+  pub tail-once : {m o : ℕ} {q : Reached} {l1 l2 v1 v2 : List ℕ} → 16 ≤ kind_seen t → kind_seen t < 18 → Judges 0 0 s (counts 1) t.start l l1 → Reads factor s room (past t p.next) q l1 l2 v v1
+      → m ≡ following q.next → o ≡ binary_kind (kind_seen t) → v2 ≡ placed v1 q.next o 0 → Reads a_tail s room p (addressed q m) l l2 v v2
   tail-once {m} {q = q} {v1 = v1} lo hi g d a i w =
       let x = seen-there h e (λ z. omega arith) in
       record {
-        tree = joined (once_of t.kind) d.tree;
+        tree = joined (once_of (kind_seen t)) d.tree;
         fine = λ _. f;
         ahead = omega (arith, x.after, x.some, d.ahead);
         inside = d.inside;
-        moves = λ c ss k u. some_moves s p f p.next (tail_at c) x record { push = a_factor ∷ an_end c ∷ []; build = λ ws. (joined (once_of t.kind) ws.0, ws.1.0) }
-            (ap (next (tail_at c)) (once-token (part s t.start t.end) t.kind lo hi)) ss k (omega arith)
+        moves = λ c ss k u. some_moves s p f p.next (tail_at c) x record { push = a_factor ∷ an_end c ∷ []; build = λ ws. (joined (once_of (kind_seen t)) ws.0, ws.1.0) }
+            (ap (next (tail_at c)) (once-token (part s t.start t.end) (kind_seen t) lo hi)) ss k (omega arith)
             ∙ d.moves tt (an_end c ∷ ss) _ (omega arith) ∙ to_address s q m (an_end c ∷ ss) _;
-        judges = λ z. put-judged (then_judged (token-judged x (counts 1) g) (d.judges z)) (Instruction.binary (once_operator (once_of t.kind))) a
-            (w ∙ ap (λ j. placed v1 q.next j 0) (i ∙ once-operation t.kind lo hi));
+        judges = λ z. put-judged (then_judged (token-judged x (counts 1) g) (d.judges z)) (Instruction.binary (once_operator (once_of (kind_seen t)))) a
+            (w ∙ ap (λ j. placed v1 q.next j 0) (i ∙ once-operation (kind_seen t) lo hi));
       }
 
-  pub tail-chain : {m o : ℕ} {q r : Reached} {l1 l2 l3 v1 v2 v3 : List ℕ} → 18 ≤ t.kind → t.kind < 22 → Judges 0 0 s (counts 1) t.start l l1 → Reads factor s room (past t p.next) q l1 l2 v v1
-      → m ≡ following q.next → o ≡ binary_kind t.kind → v2 ≡ placed v1 q.next o 0
-      → Reads (a_more (chain_of t.kind)) s room (addressed q m) r l2 l3 v2 v3 → Reads a_tail s room p r l l3 v v3
+  pub tail-chain : {m o : ℕ} {q r : Reached} {l1 l2 l3 v1 v2 v3 : List ℕ} → 18 ≤ kind_seen t → kind_seen t < 22 → Judges 0 0 s (counts 1) t.start l l1 → Reads factor s room (past t p.next) q l1 l2 v v1
+      → m ≡ following q.next → o ≡ binary_kind (kind_seen t) → v2 ≡ placed v1 q.next o 0
+      → Reads (a_more (chain_of (kind_seen t))) s room (addressed q m) r l2 l3 v2 v3 → Reads a_tail s room p r l l3 v v3
   tail-chain {m} {q = q} {v1 = v1} lo hi g d a i w b =
       let x = seen-there h e (λ z. omega arith) in
       record {
-        tree = chained (chain_of t.kind) d.tree b.tree;
+        tree = chained (chain_of (kind_seen t)) d.tree b.tree;
         fine = λ _. f;
         ahead = omega (arith, x.after, x.some, d.ahead, b.ahead);
         inside = b.inside;
-        moves = λ c ss k u. some_moves s p f p.next (tail_at c) x record { push = a_factor ∷ more_at (chain_of t.kind) c ∷ []; build = λ ws. (chained (chain_of t.kind) ws.0 ws.1.0.0, ws.1.0.1) }
-            (ap (next (tail_at c)) (chain-token (part s t.start t.end) t.kind lo hi)) ss k (omega arith)
-            ∙ d.moves tt (more_at (chain_of t.kind) c ∷ ss) _ (omega arith) ∙ to_address s q m (more_at (chain_of t.kind) c ∷ ss) _ ∙ b.moves c ss _ (omega arith);
-        judges = λ z. then_judged (put-judged (then_judged (token-judged x (counts 1) g) (d.judges (b.fine z))) (Instruction.binary (chain_operator (chain_of t.kind))) a
-            (w ∙ ap (λ j. placed v1 q.next j 0) (i ∙ chain-operation t.kind lo hi))) (b.judges z);
+        moves = λ c ss k u. some_moves s p f p.next (tail_at c) x record { push = a_factor ∷ more_at (chain_of (kind_seen t)) c ∷ []; build = λ ws. (chained (chain_of (kind_seen t)) ws.0 ws.1.0.0, ws.1.0.1) }
+            (ap (next (tail_at c)) (chain-token (part s t.start t.end) (kind_seen t) lo hi)) ss k (omega arith)
+            ∙ d.moves tt (more_at (chain_of (kind_seen t)) c ∷ ss) _ (omega arith) ∙ to_address s q m (more_at (chain_of (kind_seen t)) c ∷ ss) _ ∙ b.moves c ss _ (omega arith);
+        judges = λ z. then_judged (put-judged (then_judged (token-judged x (counts 1) g) (d.judges (b.fine z))) (Instruction.binary (chain_operator (chain_of (kind_seen t)))) a
+            (w ∙ ap (λ j. placed v1 q.next j 0) (i ∙ chain-operation (kind_seen t) lo hi))) (b.judges z);
       }
 
   -- a refusal in the factor behind a word, whichever it is
-  pub tail-refused : (r : Unfit) {l1 l2 v1 : List ℕ} → 16 ≤ t.kind → t.kind < 22 → Judges 0 0 s (counts 1) t.start l l1
+  pub tail-refused : (r : Unfit) {l1 l2 v1 : List ℕ} → 16 ≤ kind_seen t → kind_seen t < 22 → Judges 0 0 s (counts 1) t.start l l1
       → Reads factor s room (past t p.next) (reached (Err r)) l1 l2 v v1
-      → Reads a_tail s room p (addressed (reached (Err r)) (following 0)) l l2 v (placed v1 0 (binary_kind t.kind) 0)
-  tail-refused r {l2 = l2} {v1 = v1} lo hi g d = go (ltb t.kind 18) refl
+      → Reads a_tail s room p (addressed (reached (Err r)) (following 0)) l l2 v (placed v1 0 (binary_kind (kind_seen t)) 0)
+  tail-refused r {l2 = l2} {v1 = v1} lo hi g d = go (ltb (kind_seen t) 18) refl
     where
-      go : (b : Bool) → ltb t.kind 18 ≡ b → Reads a_tail s room p (addressed (reached (Err r)) (following 0)) l l2 v (placed v1 0 (binary_kind t.kind) 0)
-      go true b = tail-once lo (ltb-true t.kind 18 b) g d refl refl refl
-      go false b = tail-chain (ltb-false t.kind 18 b) hi g d refl refl refl (reads-stays (a_more (chain_of t.kind)) d.inside (numbered r))
+      go : (b : Bool) → ltb (kind_seen t) 18 ≡ b → Reads a_tail s room p (addressed (reached (Err r)) (following 0)) l l2 v (placed v1 0 (binary_kind (kind_seen t)) 0)
+      go true b = tail-once lo (ltb-true (kind_seen t) 18 b) g d refl refl refl
+      go false b = tail-chain (ltb-false (kind_seen t) 18 b) hi g d refl refl refl (reads-stays (a_more (chain_of (kind_seen t))) d.inside (numbered r))
 
   module _ {d : ℕ} (lo : 18 ≤ d) (hi : d < 22) where
-    pub chain-none : (t.kind ≡ d → ⊥) → Reads (a_more (chain_of d)) s room p p l l v v
+    pub chain-none : (kind_seen t ≡ d → ⊥) → Reads (a_more (chain_of d)) s room p p l l v v
     chain-none a =
         record {
           tree = enough;
@@ -264,11 +267,11 @@ module _ {s : List ℕ} {room : ℕ} {p : Reached} {l v : List ℕ} {t : Look} (
           ahead = omega arith;
           inside = h;
           moves = λ c ss k u. same_moves s p f 0 (more_at (chain_of d) c) (seen h e) (an_end c) ss ss k (λ vs. k ((enough, vs.0), vs.1))
-              (λ small ts. missing.more_enough (token_of_look s t) ts ss (chain_of d) c (misfit (part s t.start t.end) t.kind small (the_chain (chain_of d)) (ne_eqb t.kind (chain_kind (chain_of d)) (λ z. a (z ∙ chain-kind d lo hi)))) k);
+              (λ small ts. missing.more_enough (token_of_look s t) ts ss (chain_of d) c (misfit (part s t.start t.end) (kind_seen t) small (the_chain (chain_of d)) (ne_eqb (kind_seen t) (chain_kind (chain_of d)) (λ z. a (z ∙ chain-kind d lo hi)))) k);
           judges = λ z. none-judged;
         }
 
-    pub chain_more : {m o : ℕ} {q r : Reached} {l1 l2 l3 v1 v2 v3 : List ℕ} → t.kind ≡ d → Judges 0 0 s (counts 1) t.start l l1 → Reads factor s room (past t p.next) q l1 l2 v v1
+    pub chain_more : {m o : ℕ} {q r : Reached} {l1 l2 l3 v1 v2 v3 : List ℕ} → kind_seen t ≡ d → Judges 0 0 s (counts 1) t.start l l1 → Reads factor s room (past t p.next) q l1 l2 v v1
         → m ≡ following q.next → o ≡ binary_kind d → v2 ≡ placed v1 q.next o 0
         → Reads (a_more (chain_of d)) s room (addressed q m) r l2 l3 v2 v3 → Reads (a_more (chain_of d)) s room p r l l3 v v3
     chain_more {m} {q = q} {v1 = v1} k g b1 a i w b =

@@ -7,19 +7,21 @@ ghost use Rattle.names.specs.Roles.{primary_roles, factor_roles};
 ghost use Rattle.emission.specs.Inside.Draft.{primary_draft, factor_draft};
 ghost use Rattle.table.specs.Instructions.{Instruction};
 ghost use Rattle.layout.specs.TableWords.{operation_word};
-ghost use Rattle.look.specs.Inside.Looks.{look_of, chain_of, literal_of};
+ghost use Rattle.look.specs.Inside.Looks.{kind_seen, look_of, chain_of, literal_of};
+ghost use Rattle.look.specs.Inside.Tokens.{number_of};
 ghost use Rattle.ledger.specs.Inside.Standing.{Held};
 ghost use Rattle.reading.specs.Inside.Spots.{at_spot, reached};
 ghost use Rattle.reading.specs.Inside.Reading.{Ready, Reads, whole, an_expression, a_tail, a_more};
 
 use emission::{binary, emit};
 use ledger::{count, read_signal};
+use look::token::Token;
 use look::{Look, peek};
 use reading::{Spot, Unfit, word};
 
 // A name, which is the next token.
 fn signal(text: &[u8], ledger: &mut [u64; 328], table: &mut [u64], p: Spot, t: Look) -> Spot
-    requires { Ready 0 text.now (at_spot p) ledger.old × (t ≡ look_of text.now p.at) × (t.kind ≡ 108) }
+    requires { Ready 0 text.now (at_spot p) ledger.old × (t ≡ look_of text.now p.at) × (kind_seen t ≡ 108) }
     ensures { (room : ℕ) → Reads (whole a_primary primary_roles primary_draft) text.now room (at_spot p) (at_spot result) ledger.old ledger.new table.old table.new }
 {
     let k = read_signal(text, ledger, t);
@@ -29,7 +31,7 @@ fn signal(text: &[u8], ledger: &mut [u64; 328], table: &mut [u64], p: Spot, t: L
 
 // A literal, which is the next token, by its operation.
 fn literal(ledger: &mut [u64; 328], table: &mut [u64], p: Spot, t: Look, operation: u64) -> Spot
-    requires { Held 0 ledger.old × (22 ≤ t.kind) × (t.kind < 24) × (operation ≡ operation_word (Instruction.literal (literal_of t.kind))) }
+    requires { Held 0 ledger.old × (22 ≤ kind_seen t) × (kind_seen t < 24) × (operation ≡ operation_word (Instruction.literal (literal_of (kind_seen t)))) }
     ensures { (text : List ℕ) (room : ℕ) → p.at ≤ length text → t ≡ look_of text p.at → Reads (whole a_primary primary_roles primary_draft) text room (at_spot p) (at_spot result) ledger.old ledger.new table.old table.new }
 {
     count(ledger, 1, t.start);
@@ -50,23 +52,19 @@ pub fn primary(
     ensures { Reads (whole a_primary primary_roles primary_draft) text.now room (at_spot p) (reached result) ledger.old ledger.new table.old table.new }
 {
     let t = peek(text, p.at);
-    if t.kind == Look::NAME {
-        return Ok(signal(text, ledger, table, p, t));
+    match t.token {
+        Token::Name => Ok(signal(text, ledger, table, p, t)),
+        Token::True => Ok(literal(ledger, table, p, t, 17)),
+        Token::False => Ok(literal(ledger, table, p, t, 1)),
+        Token::Open => {
+            if room == 0 {
+                return Err(Unfit::TooDeep(t.start));
+            }
+            let q = expression(text, ledger, table, p.past(t), room - 1)?;
+            word(text, q, Token::Close)
+        }
+        _ => Err(Unfit::NoSentence(t.start)),
     }
-    if t.kind == Look::TRUE {
-        return Ok(literal(ledger, table, p, t, 17));
-    }
-    if t.kind == Look::FALSE {
-        return Ok(literal(ledger, table, p, t, 1));
-    }
-    if t.kind != Look::OPEN {
-        return Err(Unfit::NoSentence(t.start));
-    }
-    if room == 0 {
-        return Err(Unfit::TooDeep(t.start));
-    }
-    let q = expression(text, ledger, table, p.past(t), room - 1)?;
-    word(text, q, Look::CLOSE)
 }
 
 #[cycle(chain_expression_factor_primary_tail)]
@@ -81,7 +79,7 @@ pub fn factor(
     ensures { Reads (whole a_factor factor_roles factor_draft) text.now room (at_spot p) (reached result) ledger.old ledger.new table.old table.new }
 {
     let t = peek(text, p.at);
-    if t.kind != Look::NOT {
+    if t.token != Token::Not {
         return primary(text, ledger, table, p, room);
     }
     count(ledger, 1, t.start);
@@ -118,20 +116,17 @@ pub fn tail(
     ensures { Reads a_tail text.now room (at_spot p) (reached result) ledger.old ledger.new table.old table.new }
 {
     let t = peek(text, p.at);
-    if t.kind < Look::NAND {
-        return Ok(p);
-    }
-    if Look::TRUE <= t.kind {
+    if !t.token.joins() {
         return Ok(p);
     }
     count(ledger, 1, t.start);
     let q = factor(text, ledger, table, p.past(t), room)?;
-    let next = emit(table, q.next, binary(t.kind), 0);
+    let next = emit(table, q.next, binary(t.token), 0);
     let joined = Spot { at: q.at, next };
-    if t.kind < Look::AND {
+    if !t.token.chains() {
         return Ok(joined);
     }
-    chain(text, ledger, table, joined, room, t.kind)
+    chain(text, ledger, table, joined, room, t.token)
 }
 
 // More factors, joined by the same word.
@@ -142,20 +137,20 @@ pub fn chain(
     table: &mut [u64],
     first: Spot,
     room: usize,
-    kind: usize,
+    joint: Token,
 ) -> Result<Spot, Unfit>
-    requires { Ready 0 text.now (at_spot first) ledger.old × (18 ≤ kind) × (kind < 22) }
-    ensures { Reads (a_more (chain_of kind)) text.now room (at_spot first) (reached result) ledger.old ledger.new table.old table.new }
+    requires { Ready 0 text.now (at_spot first) ledger.old × (18 ≤ number_of joint) × (number_of joint < 22) }
+    ensures { Reads (a_more (chain_of (number_of joint))) text.now room (at_spot first) (reached result) ledger.old ledger.new table.old table.new }
 {
     let mut p = first;
     loop {
         let t = peek(text, p.at);
-        if t.kind != kind {
+        if t.token != joint {
             return Ok(p);
         }
         count(ledger, 1, t.start);
         let q = factor(text, ledger, table, p.past(t), room)?;
-        let next = emit(table, q.next, binary(kind), 0);
+        let next = emit(table, q.next, binary(joint), 0);
         p = Spot { at: q.at, next };
     }
 }

@@ -19,7 +19,7 @@ use Rattle.laws.specs.Text.{bytes}
 use Rattle.words.specs.Token.{Name}
 use Rattle.words.specs.Vocabulary.{lower_of, lower}
 use Rattle.rules.specs.Dump.{identifier, variables, header}
-use Rattle.look.specs.Inside.Looks.{name_at, look_of}
+use Rattle.look.specs.Inside.Looks.{kind_seen, name_at, look_of}
 use Rattle.ledger.specs.Inside.Standing.{names_from, Shelf, Standing, Keeps, keeps_fine}
 use Rattle.writing.specs.Inside.Written.{Writes}
 use Rattle.writing.proofs.Buffers.{writes_both, writes-none}
@@ -171,9 +171,9 @@ module _ {s l : List ℕ} (v : Survey s l) where
   -- the entity's name stands behind the first token
   behind_first : (word_of s beginning 0).at ≡ (look_of s 0).end
   unfolding word_of
-  behind_first = go (eqb (look_of s 0).kind 0) refl
+  behind_first = go (eqb (kind_seen (look_of s 0)) 0) refl
     where
-      go : (b : Bool) → eqb (look_of s 0).kind 0 ≡ b → (word_of s beginning 0).at ≡ (look_of s 0).end
+      go : (b : Bool) → eqb (kind_seen (look_of s 0)) 0 ≡ b → (word_of s beginning 0).at ≡ (look_of s 0).end
       go true e = rw e
       go false e = let z : ◌≡◌ {A = ℕ} 3 0 = rw e at v.begun in absurd (omega arith)
 

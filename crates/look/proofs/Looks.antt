@@ -19,7 +19,11 @@ use Rattle.lexis.specs.declared.token.Kind.TheVariants.{Word, Integer, Open, Clo
 use Rattle.lexis.proofs.Bounds.{rest-within}
 use Rattle.lexis.proofs.Scans.{tokens_at, tokens-token, tokens_end, made-refused}
 use Rattle.look.specs.declared.Look.{Look}
-use Rattle.look.specs.Inside.Looks.{part, kind_of, look_from, look_of, token_of_kind, token_of_look}
+use Rattle.look.specs.Inside.Looks.{part, seen_in, kind_of, look_from, look_of, token_of_kind, kind_seen, token_of_look}
+use Rattle.look.specs.Inside.Tokens.{number_of}
+use Rattle.look.proofs.Numbers.{least_kind}
+use Rattle.look.proofs.Tokens.{row-number, least-token}
+use Rattle.laws.proofs.Ranges.{Ranged, ranged, below, inside, above}
 
 -- THE TOKEN OF A NUMBER is the scan's
 
@@ -40,13 +44,6 @@ row_below : (run : List ℕ) → Below 108 (row_of run)
 unfolding row_of subset others vocabulary
 row_below run = row_within 0 (lower run) vocabulary
 
-number_most : (row : Option ℕ) → Below 108 row → unwrap_or row 108 ≤ 108
-number_most (Some row) h = omega arith
-number_most None h = omega arith
-
-row_most : (run : List ℕ) → unwrap_or (row_of run) 108 ≤ 108
-row_most run = number_most (row_of run) (row_below run)
-
 -- within xs, more may as well stand behind it
 get_inside : {A : Type 0} (xs : List A) (n : ℕ) (d e : A) (ys : List A) → n < length xs → get_or xs n d ≡ get_or (xs ++ ys) n e
 get_inside [] n d e ys h = absurd (omega arith)
@@ -64,9 +61,25 @@ word-token : (run : List ℕ) → word_token run ≡ token_of_kind run (unwrap_o
 unfolding word_token
 word-token run = row-token run (row_of run) (row_below run)
 
-kind-token : (k : Kind) (run : List ℕ) → token_of k run ≡ token_of_kind run (kind_of k run)
+word-number : (run : List ℕ) (row : Option ℕ) → Below 108 row → token_of_kind run (unwrap_or row 108) ≡ token_of_kind run (number_of (seen_in row))
+word-number run (Some row) h = sym (least-token run row) ∙ ap (token_of_kind run) (sym (row-number row h))
+word-number run None h = refl
+
+least-below : (k : ℕ) → k < 108 → least_kind k < 108
+least-below k h = go (ranged 32 107 k)
+  where
+    go : Ranged 32 107 k → least_kind k < 108
+    go (below t g) = rw t h
+    go (inside t g o) = rw t (omega arith)
+    go (above t g) = rw t h
+
+word-below : (row : Option ℕ) → Below 108 row → number_of (seen_in row) < 117
+word-below (Some row) h = rw (row-number row h) (omega (arith, least-below row h))
+word-below None h = omega arith
+
+kind-token : (k : Kind) (run : List ℕ) → token_of k run ≡ token_of_kind run (number_of (kind_of k run))
 unfolding token_of_kind
-kind-token Word run = word-token run
+kind-token Word run = word-token run ∙ word-number run (row_of run) (row_below run)
 kind-token Integer run = refl
 kind-token Open run = refl
 kind-token Close run = refl
@@ -76,8 +89,8 @@ kind-token Semicolon run = refl
 kind-token Arrow run = refl
 kind-token Becomes run = refl
 
-kind-below : (k : Kind) (run : List ℕ) → kind_of k run < 117
-kind-below Word run = omega (arith, row_most run)
+kind-below : (k : Kind) (run : List ℕ) → number_of (kind_of k run) < 117
+kind-below Word run = word-below (row_of run) (row_below run)
 kind-below Integer run = omega arith
 kind-below Open run = omega arith
 kind-below Close run = omega arith
@@ -94,7 +107,7 @@ placed s l = record { token = token_of_look s l; start = l.start }
 
 -- a token
 pub record There (s : List ℕ) (at : ℕ) (l : Look) : Type 0 where
-  pub kind : l.kind < 117
+  pub kind : kind_seen l < 117
   pub after : at ≤ l.start
   pub some : l.start < l.end
   pub inside : l.end ≤ length s
@@ -102,7 +115,7 @@ pub record There (s : List ℕ) (at : ℕ) (l : Look) : Type 0 where
 
 -- the end of the text
 pub record Gone (s : List ℕ) (at : ℕ) (l : Look) : Type 0 where
-  pub kind : l.kind ≡ 117
+  pub kind : kind_seen l ≡ 117
   pub start : l.start ≡ length s
   pub end : l.end ≡ length s
   pub tokens : tokens_at at (drop at s) ≡ []
@@ -138,14 +151,14 @@ pub seen : {s : List ℕ} {at : ℕ} {l : Look} → at ≤ length s → l ≡ lo
 unfolding look_of
 seen {s} {at} h e = subst (View s at) (sym e) (by_scan s at h (scan_of (drop at s)) refl)
 
-pub seen-there : {s : List ℕ} {at : ℕ} {l : Look} → at ≤ length s → l ≡ look_of s at → (l.kind ≡ 117 → ⊥) → There s at l
+pub seen-there : {s : List ℕ} {at : ℕ} {l : Look} → at ≤ length s → l ≡ look_of s at → (kind_seen l ≡ 117 → ⊥) → There s at l
 seen-there {s} {at} {l} h e f = go (seen h e)
   where
     go : View s at l → There s at l
     go (there t) = t
     go (gone g) = absurd (f g.kind)
 
-pub seen-gone : {s : List ℕ} {at : ℕ} {l : Look} → at ≤ length s → l ≡ look_of s at → l.kind ≡ 117 → Gone s at l
+pub seen-gone : {s : List ℕ} {at : ℕ} {l : Look} → at ≤ length s → l ≡ look_of s at → kind_seen l ≡ 117 → Gone s at l
 seen-gone {s} {at} {l} h e f = go (seen h e)
   where
     go : View s at l → Gone s at l

@@ -21,7 +21,8 @@ use Rattle.words.specs.Token.{ENTITY, IS, END, ARCHITECTURE, OF, SIGNAL, BEGIN, 
 use Rattle.words.specs.Token.{Token, name, integer, literal, once, chain, unit, fixed, foreign}
 use Rattle.syntax.proofs.Rows.{Kind, any_name, any_integer, any_literal, any_once, any_chain, any_unit, the_chain, the_fixed, Content, token_of, Fits, fits, Symbol, Row, row, find, rows, next}
 use Rattle.look.specs.declared.Look.{Look}
-use Rattle.look.specs.Inside.Looks.{part, name_at, kinds, token_of_kind, token_of_look, once_of, chain_of, literal_of, unit_of}
+use Rattle.look.specs.Inside.Looks.{part, name_at, kinds, token_of_kind, kind_seen, token_of_look, once_of, chain_of, literal_of}
+use Rattle.look.specs.Inside.Tokens.{unit_of}
 
 -- THE NUMBER OF A TOKEN
 
@@ -245,11 +246,11 @@ fixed-token run ARROW = refl
 fixed-token run BECOMES = refl
 
 -- what holds of each of count numbers from low on
-abbrev Each : (ℕ → Type 0) → ℕ → ℕ → Type 0
+abbrev pub Each : (ℕ → Type 0) → ℕ → ℕ → Type 0
 Each P low zero = Unit {0}
 Each P low (suc count) = P low × Each P (suc low) count
 
-in_range : (P : ℕ → Type 0) (low count : ℕ) → Each P low count → (k : ℕ) → low ≤ k → k < low + count → P k
+pub in_range : (P : ℕ → Type 0) (low count : ℕ) → Each P low count → (k : ℕ) → low ≤ k → k < low + count → P k
 in_range P low zero e k h l = absurd (omega arith)
 in_range P low (suc count) e k h l =
     elim (dec_lt low k) [
@@ -282,13 +283,13 @@ chain-kind k h l = in_range (λ (n : ℕ). chain_kind (chain_of n) ≡ n) 18 4 (
 -- THE TOKEN THAT A LOOK SEES, by its number
 
 module _ (s : List ℕ) (l : Look) where
-  pub name-seen : l.kind ≡ 108 → token_of_look s l ≡ name (name_at s l.start l.end)
+  pub name-seen : kind_seen l ≡ 108 → token_of_look s l ≡ name (name_at s l.start l.end)
   unfolding token_of_kind name_at
   name-seen e = rw e
 
-  pub integer-seen : l.kind ≡ 109 → token_of_look s l ≡ integer (value_of (part s l.start l.end))
+  pub integer-seen : kind_seen l ≡ 109 → token_of_look s l ≡ integer (value_of (part s l.start l.end))
   unfolding token_of_kind
   integer-seen e = rw e
 
-  pub fixed-seen : (w : Fixed) → l.kind ≡ fixed_kind w → token_of_look s l ≡ fixed w
+  pub fixed-seen : (w : Fixed) → kind_seen l ≡ fixed_kind w → token_of_look s l ≡ fixed w
   fixed-seen w e = ap (token_of_kind (part s l.start l.end)) e ∙ fixed-token (part s l.start l.end) w

@@ -9,14 +9,14 @@ use mathlib.Core.List.{List, [], ◌∷◌}
 use lib.Dec.{eqb}
 use lib.ListN.{length, get_or}
 use borrow.Author.Tests.{ne_eqb, eqb-true, eqb-false}
-use Rattle.laws.proofs.Ranges.{within-below, within-above}
+use Rattle.laws.specs.Pick.{within}
 use Rattle.words.specs.Token.{Name, SIGNAL, BEGIN, BOOLEAN, COLON, COMMA, SEMICOLON, BECOMES}
 use Rattle.syntax.specs.Tree.{declaration}
 use Rattle.syntax.proofs.Rows.{rows, next, a_name, a_literal, the_word, initial_value, more_signals, signals, the_fixed}
 use Rattle.syntax.proofs.Missing as missing
 use Rattle.names.specs.Roles.{Role, passes}
 use Rattle.look.specs.declared.Look.{Look}
-use Rattle.look.specs.Inside.Looks.{part, name_at, look_of, token_of_look, literal_of}
+use Rattle.look.specs.Inside.Looks.{kind_seen, part, name_at, look_of, token_of_look, literal_of}
 use Rattle.look.proofs.Looks.{seen, seen-there}
 use Rattle.look.proofs.Numbers.{taken_by, misfit, literal-token, name-seen, fixed-seen}
 use Rattle.names.specs.Judge.{State, fine}
@@ -40,7 +40,7 @@ pub kept-after : {u u' : ℕ} {s : List ℕ} {p q : Reached} {l l' v v' : List �
 kept-after {u' = u'} {s} {l' = l'} a {y} k e = subst (Keeps u' s l') e (a.keeps (fine y) k)
 
 -- the starting values of the signals from number k on, in the draft's words
-begun-drafted : (kind k upto : ℕ) → 22 ≤ kind → kind ≤ 23 → (y : State) (v w : List ℕ) (n : ℕ) → upto ≡ length y.signal_names → w ≡ begun v k upto kind
+begun-drafted : (kind k upto : ℕ) → 22 ≤ kind → kind < 24 → (y : State) (v w : List ℕ) (n : ℕ) → upto ≡ length y.signal_names → w ≡ begun v k upto kind
     → with_initial (some (literal_of kind)) k (drafted y v n) ≡ drafted y w n
 unfolding with_initial
 begun-drafted kind k upto lo hi y v w n e g = go (eqb kind 22) refl
@@ -53,7 +53,7 @@ module _ {s : List ℕ} {p : Reached} {t : Look} (h : p.at ≤ length s) (f : p.
   -- NAMES
 
   -- a name in a role
-  pub name-read : {l l' v : List ℕ} (role : Name → Role) → t.kind ≡ 108 → Judges 0 0 s (role (name_at s t.start t.end)) t.start l l'
+  pub name-read : {l l' v : List ℕ} (role : Name → Role) → kind_seen t ≡ 108 → Judges 0 0 s (role (name_at s t.start t.end)) t.start l l'
       → Reads (whole a_name (λ m r. role m ∷ r) (λ m. draft_of (role m))) s 32 p (past t p.next) l l' v v
   name-read role k j =
       let x = seen-there h e (λ z. omega arith) in
@@ -66,11 +66,11 @@ module _ {s : List ℕ} {p : Reached} {t : Look} (h : p.at ≤ length s) (f : p.
         judges = λ _. token-judged x (role (name_at s t.start t.end)) j;
       }
 
-  pub name-unfit : {l l' v v' : List ℕ} (role : Name → Role) {drafts : Name → Draft → Draft} (n : ℕ) → (t.kind ≡ 108 → ⊥)
+  pub name-unfit : {l l' v v' : List ℕ} (role : Name → Role) {drafts : Name → Draft → Draft} (n : ℕ) → (kind_seen t ≡ 108 → ⊥)
       → Reads (whole a_name (λ m r. role m ∷ r) drafts) s 32 p (unfit t n) l l' v v'
-  name-unfit role {drafts} n k = reads-stuck (whole a_name (λ m r. role m ∷ r) drafts) h f e (λ _ small. rw (ne_eqb t.kind 108 k))
+  name-unfit role {drafts} n k = reads-stuck (whole a_name (λ m r. role m ∷ r) drafts) h f e (λ _ small. rw (ne_eqb (kind_seen t) 108 k))
 
-  named-token : {l v : List ℕ} → t.kind ≡ 108 → Reads (given a_name (name_at s t.start t.end) (λ r. passes ∷ r)) s 32 p (past t p.next) l l v v
+  named-token : {l v : List ℕ} → kind_seen t ≡ 108 → Reads (given a_name (name_at s t.start t.end) (λ r. passes ∷ r)) s 32 p (past t p.next) l l v v
   named-token k =
       let x = seen-there h e (λ z. omega arith) in
       record {
@@ -82,7 +82,7 @@ module _ {s : List ℕ} {p : Reached} {t : Look} (h : p.at ≤ length s) (f : p.
         judges = λ _. passes-judged x;
       }
 
-  pub named-read : {l v : List ℕ} → t.kind ≡ 108 → Named s p (past t p.next) l v
+  pub named-read : {l v : List ℕ} → kind_seen t ≡ 108 → Named s p (past t p.next) l v
   named-read {l} {v} k =
       let x = seen-there h e (λ z. omega arith) in
       record {
@@ -90,17 +90,17 @@ module _ {s : List ℕ} {p : Reached} {t : Look} (h : p.at ≤ length s) (f : p.
         some = λ _. subst (λ (u : Look). u.start < u.end) e x.some;
       }
 
-  pub named-unfit : {l v : List ℕ} (n : ℕ) → (t.kind ≡ 108 → ⊥) → Named s p (unfit t n) l v
+  pub named-unfit : {l v : List ℕ} (n : ℕ) → (kind_seen t ≡ 108 → ⊥) → Named s p (unfit t n) l v
   named-unfit n k =
       record {
-        reads = reads-stuck (given a_name (the_name s p.at) (λ r. passes ∷ r)) h f e (λ _ small. rw (ne_eqb t.kind 108 k));
+        reads = reads-stuck (given a_name (the_name s p.at) (λ r. passes ∷ r)) h f e (λ _ small. rw (ne_eqb (kind_seen t) 108 k));
         some = λ z. absurd (omega (arith, z));
       }
 
   -- [`:=` literal] `;`, for the signals from number from on
 
   module _ (from : ℕ) where
-    pub initial-none : {q : Reached} {l v : List ℕ} → (t.kind ≡ 116 → ⊥) → q ≡ word_of s p 114 → Reads (whole initial_value initial_roles (initial_draft from)) s 32 p q l l v v
+    pub initial-none : {q : Reached} {l v : List ℕ} → (kind_seen t ≡ 116 → ⊥) → q ≡ word_of s p 114 → Reads (whole initial_value initial_roles (initial_draft from)) s 32 p q l l v v
     unfolding with_initial
     initial-none {q} k e2 =
         let w = worded SEMICOLON h e2 in
@@ -110,13 +110,13 @@ module _ {s : List ℕ} {p : Reached} {t : Look} (h : p.at ≤ length s) (f : p.
           ahead = w.ahead;
           inside = w.inside;
           moves = λ c ss m u. same_moves s p f 0 initial_value (seen h e) (the_word SEMICOLON) ss ss m (λ vs. m (none, vs.1))
-              (λ small ts. missing.initial-missing (token_of_look s t) ts ss (misfit (part s t.start t.end) t.kind small (the_fixed BECOMES) (ne_eqb t.kind 116 k)) m)
+              (λ small ts. missing.initial-missing (token_of_look s t) ts ss (misfit (part s t.start t.end) (kind_seen t) small (the_fixed BECOMES) (ne_eqb (kind_seen t) 116 k)) m)
               ∙ w.moves (the_word SEMICOLON) record { push = []; build = λ _. tt } refl (only-word s p SEMICOLON) ss _ (omega arith);
           judges = λ g. w.judges g;
         }
 
-    module _ (k : t.kind ≡ 116) {i : Look} (e2 : i ≡ look_of s t.end) where
-      no_literal : (n : ℕ) {l l' v v' : List ℕ} → ((small : i.kind < 117) → taken_by (part s i.start i.end) i.kind small (rows a_literal) ≡ false)
+    module _ (k : kind_seen t ≡ 116) {i : Look} (e2 : i ≡ look_of s t.end) where
+      no_literal : (n : ℕ) {l l' v v' : List ℕ} → ((small : kind_seen i < 117) → taken_by (part s i.start i.end) (kind_seen i) small (rows a_literal) ≡ false)
           → Reads (whole initial_value initial_roles (initial_draft from)) s 32 p (unfit i n) l l' v v'
       no_literal n g =
           let x = seen-there h e (λ z. omega arith) in
@@ -131,36 +131,33 @@ module _ {s : List ℕ} {p : Reached} {t : Look} (h : p.at ≤ length s) (f : p.
             judges = λ z. absurd (omega (arith, z));
           }
 
-      pub initial-low : (n : ℕ) {l l' v v' : List ℕ} → i.kind < 22 → Reads (whole initial_value initial_roles (initial_draft from)) s 32 p (unfit i n) l l' v v'
-      initial-low n g = no_literal n (λ small. rw (within-below 22 23 i.kind g))
+      pub initial-no-literal : (n : ℕ) {l l' v v' : List ℕ} → within 22 23 (kind_seen i) ≡ false → Reads (whole initial_value initial_roles (initial_draft from)) s 32 p (unfit i n) l l' v v'
+      initial-no-literal n g = no_literal n (λ small. rw g)
 
-      pub initial-high : (n : ℕ) {l l' v v' : List ℕ} → 23 < i.kind → Reads (whole initial_value initial_roles (initial_draft from)) s 32 p (unfit i n) l l' v v'
-      initial-high n g = no_literal n (λ small. rw (within-above 22 23 i.kind g))
-
-      pub initial-given : (upto : ℕ) {q : Reached} {l v v' : List ℕ} → 22 ≤ i.kind → i.kind ≤ 23 → q ≡ word_of s (past i p.next) 114 → upto ≡ get_or l 2 0
-          → v' ≡ begun v from upto i.kind → Reads (whole initial_value initial_roles (initial_draft from)) s 32 p q l l v v'
+      pub initial-given : (upto : ℕ) {q : Reached} {l v v' : List ℕ} → 22 ≤ kind_seen i → kind_seen i < 24 → q ≡ word_of s (past i p.next) 114 → upto ≡ get_or l 2 0
+          → v' ≡ begun v from upto (kind_seen i) → Reads (whole initial_value initial_roles (initial_draft from)) s 32 p q l l v v'
       initial-given upto {q} {l} {v} {v'} lo hi e3 counted e4 =
           let x = seen-there h e (λ z. omega arith) in
           let x2 = seen-there x.inside e2 (λ z. omega arith) in
           let w = worded SEMICOLON x2.inside e3 in
           record {
-            tree = some (literal_of i.kind);
+            tree = some (literal_of (kind_seen i));
             fine = λ _. f;
             ahead = omega (arith, x.after, x.some, x2.after, x2.some, w.ahead);
             inside = w.inside;
             moves = λ c ss m u. some_moves s p f p.next initial_value x record { push = a_literal ∷ the_word SEMICOLON ∷ []; build = λ ws. some ws.0 } (ap (next initial_value) (fixed-seen s t BECOMES k)) ss m (omega arith)
-                ∙ some_moves s (past t p.next) refl p.next a_literal x2 record { push = []; build = λ _. literal_of i.kind } (ap (next a_literal) (literal-token (part s i.start i.end) i.kind lo (omega arith))) (the_word SEMICOLON ∷ ss) _ (omega arith)
+                ∙ some_moves s (past t p.next) refl p.next a_literal x2 record { push = []; build = λ _. literal_of (kind_seen i) } (ap (next a_literal) (literal-token (part s i.start i.end) (kind_seen i) lo (omega arith))) (the_word SEMICOLON ∷ ss) _ (omega arith)
                 ∙ w.moves (the_word SEMICOLON) record { push = []; build = λ _. tt } refl (only-word s (past i p.next) SEMICOLON) ss _ (omega arith);
             judges = λ z.
                 let literal = passes-judged {p = past t p.next} x2 {v = v} {u = 0} {l = l} in
-                then_judged (passes-judged x) (then_judged (redrafted literal (λ y y' c o g. ap (with_initial (some (literal_of i.kind)) from) g
-                ∙ begun-drafted i.kind from upto lo hi y' v v' p.next (counted ∙ counted-signals (kept-after literal c o)) e4)) (w.judges z));
+                then_judged (passes-judged x) (then_judged (redrafted literal (λ y y' c o g. ap (with_initial (some (literal_of (kind_seen i))) from) g
+                ∙ begun-drafted (kind_seen i) from upto lo hi y' v v' p.next (counted ∙ counted-signals (kept-after literal c o)) e4)) (w.judges z));
           }
 
   -- {`,` name} `:` `boolean` [`:=` literal] `;`
 
   module _ (from : ℕ) where
-    pub more_typed : {a b q : Reached} {l v v' : List ℕ} → (t.kind ≡ 112 → ⊥) → a ≡ word_of s p 113 → b ≡ word_of s a 7
+    pub more_typed : {a b q : Reached} {l v v' : List ℕ} → (kind_seen t ≡ 112 → ⊥) → a ≡ word_of s p 113 → b ≡ word_of s a 7
         → Reads (whole initial_value initial_roles (initial_draft from)) s 32 b q l l v v' → Reads (whole more_signals more_signals_roles (more_signals_draft from)) s 32 p q l l v v'
     more_typed {a} {b} k e1 e2 d =
         let w1 = worded COLON h e1 in
@@ -171,7 +168,7 @@ module _ {s : List ℕ} {p : Reached} {t : Look} (h : p.at ≤ length s) (f : p.
           ahead = omega (arith, w1.ahead, w2.ahead, d.ahead);
           inside = d.inside;
           moves = λ c ss m u. w1.moves more_signals record { push = the_word BOOLEAN ∷ initial_value ∷ []; build = λ ws. ([], ws.1.0) } refl
-              (λ _ small o. rw (ne_eqb _ 112 (λ z. k (ap (λ (v : Look). v.kind) e ∙ z)), ne_eqb _ 113 o)) ss m (omega arith)
+              (λ _ small o. rw (ne_eqb _ 112 (λ z. k (ap kind_seen e ∙ z)), ne_eqb _ 113 o)) ss m (omega arith)
               ∙ w2.moves (the_word BOOLEAN) record { push = []; build = λ _. tt } refl (only-word s a BOOLEAN) (initial_value ∷ ss) _ (omega arith)
               ∙ d.moves tt ss _ (omega arith);
           judges = λ z.
@@ -179,7 +176,7 @@ module _ {s : List ℕ} {p : Reached} {t : Look} (h : p.at ≤ length s) (f : p.
               then_judged (w1.judges (w2.fine fb)) (then_judged (w2.judges fb) (d.judges z));
         }
 
-    pub more_comma : {q r : Reached} {l l1 l2 v v1 v2 : List ℕ} → t.kind ≡ 112 → Reads (whole a_name declares_roles with_name) s 32 (past t p.next) q l l1 v v1
+    pub more_comma : {q r : Reached} {l l1 l2 v v1 v2 : List ℕ} → kind_seen t ≡ 112 → Reads (whole a_name declares_roles with_name) s 32 (past t p.next) q l l1 v v1
         → Reads (whole more_signals more_signals_roles (more_signals_draft from)) s 32 q r l1 l2 v1 v2 → Reads (whole more_signals more_signals_roles (more_signals_draft from)) s 32 p r l l2 v v2
     more_comma k d o =
         let x = seen-there h e (λ z. omega arith) in
@@ -195,7 +192,7 @@ module _ {s : List ℕ} {p : Reached} {t : Look} (h : p.at ≤ length s) (f : p.
 
   -- {signal} `begin`
 
-  pub signals_end : {q : Reached} {l v : List ℕ} → (t.kind ≡ 5 → ⊥) → q ≡ word_of s p 6 → Reads (whole signals signals_roles declarations_draft) s 32 p q l l v v
+  pub signals_end : {q : Reached} {l v : List ℕ} → (kind_seen t ≡ 5 → ⊥) → q ≡ word_of s p 6 → Reads (whole signals signals_roles declarations_draft) s 32 p q l l v v
   signals_end k e1 =
       let w = worded BEGIN h e1 in
       record {
@@ -204,11 +201,11 @@ module _ {s : List ℕ} {p : Reached} {t : Look} (h : p.at ≤ length s) (f : p.
         ahead = w.ahead;
         inside = w.inside;
         moves = λ c ss m u. w.moves signals record { push = []; build = λ _. [] } refl
-            (λ _ small o. rw (ne_eqb _ 5 (λ z. k (ap (λ (v : Look). v.kind) e ∙ z)), ne_eqb _ 6 o)) ss m (omega arith);
+            (λ _ small o. rw (ne_eqb _ 5 (λ z. k (ap kind_seen e ∙ z)), ne_eqb _ 6 o)) ss m (omega arith);
         judges = λ z. w.judges z;
       }
 
-  pub signals_more : (from : ℕ) {a q r : Reached} {l l1 l2 l3 v v1 v2 v3 : List ℕ} → t.kind ≡ 5 → from ≡ get_or l 2 0
+  pub signals_more : (from : ℕ) {a q r : Reached} {l l1 l2 l3 v v1 v2 v3 : List ℕ} → kind_seen t ≡ 5 → from ≡ get_or l 2 0
       → Reads (whole a_name declares_roles with_name) s 32 (past t p.next) a l l1 v v1 → Reads (whole more_signals more_signals_roles (more_signals_draft from)) s 32 a q l1 l2 v1 v2
       → Reads (whole signals signals_roles declarations_draft) s 32 q r l2 l3 v2 v3 → Reads (whole signals signals_roles declarations_draft) s 32 p r l l3 v v3
   signals_more from {q = q} {v = v} k counted d o i =

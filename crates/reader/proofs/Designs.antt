@@ -1,17 +1,17 @@
 -- The whole design: one law for each way of returning.
 -- Assumes nothing.
-use Prim.Native.Nat.{ℕ, ◌<◌, ◌≤◌}
+use Prim.Native.Nat.{ℕ, ◌≤◌}
 use native.Mathlib.Omega.{arith}
 use mathlib.Core.Path.{◌≡◌, refl, sym, ap, ◌∙◌, subst}
 use mathlib.Core.Option.{Option, some}
 use mathlib.Core.List.{List, [], ◌∷◌}
 use lib.ListN.{length}
-use borrow.Author.Tests.{ne_eqb, lt-ltb}
+use borrow.Author.Tests.{ne_eqb}
 use Rattle.words.specs.Token.{Name, ENTITY, ARCHITECTURE, OF, IS, END}
 use Rattle.syntax.specs.Tree.{design}
 use Rattle.syntax.proofs.Rows.{entity_part, architecture_part, a_design, a_name, the_word, signals, processes, closing}
 use Rattle.look.specs.declared.Look.{Look}
-use Rattle.look.specs.Inside.Looks.{name_at, look_of}
+use Rattle.look.specs.Inside.Looks.{kind_seen, name_at, look_of}
 use Rattle.look.proofs.Looks.{View, there, gone, seen, seen-there, seen-gone}
 use Rattle.emission.specs.Inside.Draft.{declarations_draft, processes_draft}
 use Rattle.ledger.specs.Inside.Standing.{Sound, Span}
@@ -45,10 +45,10 @@ pub finished_off : {s : List ℕ} {p : Reached} → (p.number ≡ 0 → ⊥) →
 finished_off f = record { fine = λ z. z; moves = λ k. refl; judges = λ z. refl; ends = λ z. absurd (f z) }
 
 module _ {s : List ℕ} {p : Reached} {t : Look} (h : p.at ≤ length s) (f : p.number ≡ 0) (e : t ≡ look_of s p.at) where
-  pub finished_end : t.kind ≡ 117 → Finished s p p
+  pub finished_end : kind_seen t ≡ 117 → Finished s p p
   finished_end k = record { fine = λ z. z; moves = λ k. refl; judges = λ z. refl; ends = λ z. (seen-gone h e k).tokens }
 
-  pub finished_more : {n : ℕ} → (t.kind ≡ 117 → ⊥) → Finished s p (unfit t n)
+  pub finished_more : {n : ℕ} → (kind_seen t ≡ 117 → ⊥) → Finished s p (unfit t n)
   unfolding machine verdict
   finished_more k =
       let x = seen-there h e k in

@@ -2,19 +2,19 @@
 -- Assumes nothing.
 use Prim.Native.Nat.{ℕ, ◌≤◌}
 use native.Mathlib.Omega.{arith}
-use mathlib.Core.Path.{◌≡◌, refl, ap, ◌∙◌, subst}
+use mathlib.Core.Path.{◌≡◌, refl, ap, ◌∙◌}
 use mathlib.Core.Bool.{true, false}
 use mathlib.Core.Option.{Option, none, some}
 use mathlib.Core.List.{List, [], ◌∷◌}
 use lib.ListN.{length, get_or}
-use borrow.Author.Tests.{eq-eqb, ne_eqb, lt-ltb}
+use borrow.Author.Tests.{eq-eqb, ne_eqb}
 use Rattle.words.specs.Token.{Name, IS, BEGIN, END, PROCESS, OPEN, CLOSE, COLON, COMMA, SEMICOLON, fixed}
 use Rattle.syntax.specs.Tree.{Statements, done, unlisted, listed}
 use Rattle.syntax.proofs.Rows.{in_process, Part, entity_part, architecture_part, part_word, next, labelled, a_name, the_word, more_listed, beginning, closing_name, closing, process_body, processes, statements, the_fixed}
 use Rattle.syntax.proofs.Missing as missing
 use Rattle.names.specs.Roles.{listens, labels, opens, closes}
 use Rattle.look.specs.declared.Look.{Look}
-use Rattle.look.specs.Inside.Looks.{part, name_at, look_of, token_of_look}
+use Rattle.look.specs.Inside.Looks.{kind_seen, part, name_at, look_of, token_of_look}
 use Rattle.look.proofs.Looks.{seen, seen-there}
 use Rattle.look.proofs.Numbers.{fixed_kind, misfit, name-seen, fixed-seen}
 use Rattle.names.specs.Judge.{State, fine, number_of}
@@ -50,7 +50,7 @@ end_drafted y v i g o = rw (o, g)
 module _ {s : List ℕ} {p : Reached} {t : Look} (h : p.at ≤ length s) (f : p.number ≡ 0) (e : t ≡ look_of s p.at) where
   -- a name in a list
 
-  pub listened_read : {k : ℕ} {l l' v v' : List ℕ} → t.kind ≡ 108 → Judges 0 0 s (listens (name_at s t.start t.end)) t.start l l'
+  pub listened_read : {k : ℕ} {l l' v v' : List ℕ} → kind_seen t ≡ 108 → Judges 0 0 s (listens (name_at s t.start t.end)) t.start l l'
       → Numbers s l (name_at s t.start t.end) k → v' ≡ waking v k (get_or l' 4 0) → Reads (whole a_name listens_roles with_listener) s 32 p (past t p.next) l l' v v'
   listened_read {k} {l} {l'} {v} {v'} g j numbers o =
       let x = seen-there h e (λ z. omega arith) in
@@ -68,7 +68,7 @@ module _ {s : List ℕ} {p : Reached} {t : Look} (h : p.at ≤ length s) (f : p.
 
   -- {`,` name} `)`
 
-  pub listed_end : {q : Reached} {l v : List ℕ} → (t.kind ≡ 112 → ⊥) → q ≡ word_of s p 111 → Reads (whole more_listed more_listed_roles more_listed_draft) s 32 p q l l v v
+  pub listed_end : {q : Reached} {l v : List ℕ} → (kind_seen t ≡ 112 → ⊥) → q ≡ word_of s p 111 → Reads (whole more_listed more_listed_roles more_listed_draft) s 32 p q l l v v
   listed_end k e1 =
       let w = worded CLOSE h e1 in
       record {
@@ -77,11 +77,11 @@ module _ {s : List ℕ} {p : Reached} {t : Look} (h : p.at ≤ length s) (f : p.
         ahead = w.ahead;
         inside = w.inside;
         moves = λ c ss m u. w.moves more_listed record { push = []; build = λ _. [] } refl
-            (λ _ small o. rw (ne_eqb _ 112 (λ z. k (ap (λ (v : Look). v.kind) e ∙ z)), ne_eqb _ 111 o)) ss m (omega arith);
+            (λ _ small o. rw (ne_eqb _ 112 (λ z. k (ap kind_seen e ∙ z)), ne_eqb _ 111 o)) ss m (omega arith);
         judges = λ z. w.judges z;
       }
 
-  pub listed_comma : {q r : Reached} {l l1 l2 v v1 v2 : List ℕ} → t.kind ≡ 112 → Reads (whole a_name listens_roles with_listener) s 32 (past t p.next) q l l1 v v1
+  pub listed_comma : {q r : Reached} {l l1 l2 v v1 v2 : List ℕ} → kind_seen t ≡ 112 → Reads (whole a_name listens_roles with_listener) s 32 (past t p.next) q l l1 v v1
       → Reads (whole more_listed more_listed_roles more_listed_draft) s 32 q r l1 l2 v1 v2 → Reads (whole more_listed more_listed_roles more_listed_draft) s 32 p r l l2 v v2
   listed_comma k d o =
       let x = seen-there h e (λ z. omega arith) in
@@ -97,7 +97,7 @@ module _ {s : List ℕ} {p : Reached} {t : Look} (h : p.at ≤ length s) (f : p.
 
   -- [`(` name {`,` name} `)`]
 
-  pub list_none : {l v : List ℕ} → (t.kind ≡ 110 → ⊥) → Reads a_list s 32 p p l l v v
+  pub list_none : {l v : List ℕ} → (kind_seen t ≡ 110 → ⊥) → Reads a_list s 32 p p l l v v
   list_none k =
       record {
         tree = unlisted;
@@ -105,11 +105,11 @@ module _ {s : List ℕ} {p : Reached} {t : Look} (h : p.at ≤ length s) (f : p.
         ahead = omega arith;
         inside = h;
         moves = λ c ss m u. same_moves s p f 0 process_body (seen h e) beginning ss (statements in_process ∷ ss) m (λ vs. m ((unlisted, (vs.0, vs.1.0)), vs.1.1))
-            (λ small ts. missing.list_missing (token_of_look s t) ts ss (misfit (part s t.start t.end) t.kind small (the_fixed OPEN) (ne_eqb t.kind 110 k)) m);
+            (λ small ts. missing.list_missing (token_of_look s t) ts ss (misfit (part s t.start t.end) (kind_seen t) small (the_fixed OPEN) (ne_eqb (kind_seen t) 110 k)) m);
         judges = λ z. none-judged;
       }
 
-  pub list_some : {q r : Reached} {l l1 l2 v v1 v2 : List ℕ} → t.kind ≡ 110 → Reads (whole a_name listens_roles with_listener) s 32 (past t p.next) q l l1 v v1
+  pub list_some : {q r : Reached} {l l1 l2 v v1 v2 : List ℕ} → kind_seen t ≡ 110 → Reads (whole a_name listens_roles with_listener) s 32 (past t p.next) q l l1 v v1
       → Reads (whole more_listed more_listed_roles more_listed_draft) s 32 q r l1 l2 v1 v2 → Reads a_list s 32 p r l l2 v v2
   list_some k d o =
       let x = seen-there h e (λ z. omega arith) in
@@ -127,7 +127,7 @@ module _ {s : List ℕ} {p : Reached} {t : Look} (h : p.at ≤ length s) (f : p.
 
   -- [`is`] `begin`
 
-  pub beginning-plain : {q : Reached} {l v : List ℕ} → (t.kind ≡ 1 → ⊥) → q ≡ word_of s p 6 → Reads (whole beginning beginning_roles silent) s 32 p q l l v v
+  pub beginning-plain : {q : Reached} {l v : List ℕ} → (kind_seen t ≡ 1 → ⊥) → q ≡ word_of s p 6 → Reads (whole beginning beginning_roles silent) s 32 p q l l v v
   beginning-plain k e1 =
       let w = worded BEGIN h e1 in
       record {
@@ -136,11 +136,11 @@ module _ {s : List ℕ} {p : Reached} {t : Look} (h : p.at ≤ length s) (f : p.
         ahead = w.ahead;
         inside = w.inside;
         moves = λ c ss m u. w.moves beginning record { push = []; build = λ _. false } refl
-            (λ _ small o. rw (ne_eqb _ 1 (λ z. k (ap (λ (v : Look). v.kind) e ∙ z)), ne_eqb _ 6 o)) ss m (omega arith);
+            (λ _ small o. rw (ne_eqb _ 1 (λ z. k (ap kind_seen e ∙ z)), ne_eqb _ 6 o)) ss m (omega arith);
         judges = λ z. w.judges z;
       }
 
-  pub beginning_is : {q : Reached} {l v : List ℕ} → t.kind ≡ 1 → q ≡ word_of s (past t p.next) 6 → Reads (whole beginning beginning_roles silent) s 32 p q l l v v
+  pub beginning_is : {q : Reached} {l v : List ℕ} → kind_seen t ≡ 1 → q ≡ word_of s (past t p.next) 6 → Reads (whole beginning beginning_roles silent) s 32 p q l l v v
   beginning_is k e1 =
       let x = seen-there h e (λ z. omega arith) in
       let w = worded BEGIN x.inside e1 in
@@ -156,7 +156,7 @@ module _ {s : List ℕ} {p : Reached} {t : Look} (h : p.at ≤ length s) (f : p.
 
   -- [name] `;`
 
-  pub closing-none : {q : Reached} {l v : List ℕ} {o : Option Name} → (t.kind ≡ 108 → ⊥) → q ≡ word_of s p 114 → Reads (whole closing_name (closing_name_roles o) silent) s 32 p q l l v v
+  pub closing-none : {q : Reached} {l v : List ℕ} {o : Option Name} → (kind_seen t ≡ 108 → ⊥) → q ≡ word_of s p 114 → Reads (whole closing_name (closing_name_roles o) silent) s 32 p q l l v v
   closing-none k e1 =
       let w = worded SEMICOLON h e1 in
       record {
@@ -165,11 +165,11 @@ module _ {s : List ℕ} {p : Reached} {t : Look} (h : p.at ≤ length s) (f : p.
         ahead = w.ahead;
         inside = w.inside;
         moves = λ c ss m u. w.moves closing_name record { push = []; build = λ _. none } refl
-            (λ _ small o. rw (ne_eqb _ 108 (λ z. k (ap (λ (v : Look). v.kind) e ∙ z)), ne_eqb _ 114 o)) ss m (omega arith);
+            (λ _ small o. rw (ne_eqb _ 108 (λ z. k (ap kind_seen e ∙ z)), ne_eqb _ 114 o)) ss m (omega arith);
         judges = λ z. w.judges z;
       }
 
-  pub closing_some : {q : Reached} {l l' v : List ℕ} {o : Option Name} → t.kind ≡ 108 → Judges 0 0 s (closes o (name_at s t.start t.end)) t.start l l'
+  pub closing_some : {q : Reached} {l l' v : List ℕ} {o : Option Name} → kind_seen t ≡ 108 → Judges 0 0 s (closes o (name_at s t.start t.end)) t.start l l'
       → q ≡ word_of s (past t p.next) 114 → Reads (whole closing_name (closing_name_roles o) silent) s 32 p q l l' v v
   closing_some {o = o} k j e1 =
       let x = seen-there h e (λ z. omega arith) in
@@ -186,7 +186,7 @@ module _ {s : List ℕ} {p : Reached} {t : Look} (h : p.at ≤ length s) (f : p.
 
   -- [`entity` or `architecture`] [name] `;`
 
-  pub part-plain : (u : Part) {q : Reached} {l l' v v' : List ℕ} {o : Option Name} → (t.kind ≡ fixed_kind (part_word u) → ⊥)
+  pub part-plain : (u : Part) {q : Reached} {l l' v v' : List ℕ} {o : Option Name} → (kind_seen t ≡ fixed_kind (part_word u) → ⊥)
       → Reads (whole closing_name (closing_name_roles o) silent) s 32 p q l l' v v' → Reads (whole (closing u) (closing_part_roles o) silent) s 32 p q l l' v v'
   part-plain u k d =
       record {
@@ -195,12 +195,12 @@ module _ {s : List ℕ} {p : Reached} {t : Look} (h : p.at ≤ length s) (f : p.
         ahead = d.ahead;
         inside = d.inside;
         moves = λ c ss m i. same_moves s p f 0 (closing u) (seen h e) closing_name ss ss m (λ vs. m ((false, vs.0), vs.1))
-            (λ small ts. missing.closing-word-missing (token_of_look s t) ts ss u (misfit (part s t.start t.end) t.kind small (the_fixed (part_word u)) (ne_eqb t.kind (fixed_kind (part_word u)) k)) m)
+            (λ small ts. missing.closing-word-missing (token_of_look s t) ts ss u (misfit (part s t.start t.end) (kind_seen t) small (the_fixed (part_word u)) (ne_eqb (kind_seen t) (fixed_kind (part_word u)) k)) m)
             ∙ d.moves tt ss (λ vs. m ((false, vs.0), vs.1)) (omega arith);
         judges = d.judges;
       }
 
-  pub part-word : (u : Part) {q : Reached} {l l' v v' : List ℕ} {o : Option Name} → t.kind ≡ fixed_kind (part_word u) → (t.kind ≡ 117 → ⊥)
+  pub part-word : (u : Part) {q : Reached} {l l' v v' : List ℕ} {o : Option Name} → kind_seen t ≡ fixed_kind (part_word u) → (kind_seen t ≡ 117 → ⊥)
       → Reads (whole closing_name (closing_name_roles o) silent) s 32 (past t p.next) q l l' v v' → Reads (whole (closing u) (closing_part_roles o) silent) s 32 p q l l' v v'
   part-word u k g d =
       let x = seen-there h e g in
@@ -247,15 +247,15 @@ body-read {s} {p} {a} {b} {c} {d} {e} {q} {v2 = v2} r1 r2 r3 stops ends e1 e2 r4
 -- THE WORD `process`
 
 module _ {s : List ℕ} {p : Reached} {t : Look} (h : p.at ≤ length s) (f : p.number ≡ 0) (e : t ≡ look_of s p.at) where
-  pub opens-read : {l l' v : List ℕ} → t.kind ≡ 8 → Judges 1 0 s opens t.start l l' → Opens s p (past t p.next) l l' v
+  pub opens-read : {l l' v : List ℕ} → kind_seen t ≡ 8 → Judges 1 0 s opens t.start l l' → Opens s p (past t p.next) l l' v
   unfolding word_of
   opens-read k j =
       let x = seen-there h e (λ z. omega arith) in
-      record { worded = rw (eq-eqb p.number 0 f, ← e, eq-eqb t.kind 8 k); judged = λ _. token-judged x opens j }
+      record { worded = rw (eq-eqb p.number 0 f, ← e, eq-eqb (kind_seen t) 8 k); judged = λ _. token-judged x opens j }
 
-  pub opens-unfit : {l l' v : List ℕ} → (t.kind ≡ 8 → ⊥) → Opens s p (unfit t 0) l l' v
+  pub opens-unfit : {l l' v : List ℕ} → (kind_seen t ≡ 8 → ⊥) → Opens s p (unfit t 0) l l' v
   unfolding word_of
-  opens-unfit k = record { worded = rw (eq-eqb p.number 0 f, ← e, ne_eqb t.kind 8 k); judged = λ z. absurd (omega (arith, z)) }
+  opens-unfit k = record { worded = rw (eq-eqb p.number 0 f, ← e, ne_eqb (kind_seen t) 8 k); judged = λ z. absurd (omega (arith, z)) }
 
 pub opens-off : {s : List ℕ} {p : Reached} {l l' v : List ℕ} → (p.number ≡ 0 → ⊥) → Opens s p p l l' v
 unfolding word_of
@@ -272,7 +272,7 @@ ready-opened r o =
 -- A PROCESS
 
 module _ {s : List ℕ} {p : Reached} {t : Look} (h : p.at ≤ length s) (f : p.number ≡ 0) (e : t ≡ look_of s p.at) where
-  pub process-labelled : {a b q : Reached} {l l1 l2 l3 v v' : List ℕ} → t.kind ≡ 108 → Judges 0 1 s (labels (name_at s t.start t.end)) t.start l l1
+  pub process-labelled : {a b q : Reached} {l l1 l2 l3 v v' : List ℕ} → kind_seen t ≡ 108 → Judges 0 1 s (labels (name_at s t.start t.end)) t.start l l1
       → a ≡ word_of s (past t p.next) 113 → Opens s a b l1 l2 v → Reads (whole process_body (body_roles (some (name_at s t.start t.end))) body_draft) s 32 b q l2 l3 v v'
       → Reads a_process s 32 p q l l3 v v'
   process-labelled {a} {b} {q} {l} {l1} {l2} {l3} {v} {v'} k j e1 o d =
@@ -296,7 +296,7 @@ module _ {s : List ℕ} {p : Reached} {t : Look} (h : p.at ≤ length s) (f : p.
             then_judged (token-judged x (labels (name_at s t.start t.end)) j) (then_judged (w1.judges fa) (then_judged (o.judged fb) (d.judges z)));
       }
 
-  pub process-plain : {b q : Reached} {l l1 l2 v v' : List ℕ} → (t.kind ≡ 108 → ⊥) → (t.kind ≡ 2 → ⊥) → Opens s p b l l1 v
+  pub process-plain : {b q : Reached} {l l1 l2 v v' : List ℕ} → (kind_seen t ≡ 108 → ⊥) → (kind_seen t ≡ 2 → ⊥) → Opens s p b l l1 v
       → Reads (whole process_body (body_roles none) body_draft) s 32 b q l1 l2 v v' → Reads a_process s 32 p q l l2 v v'
   process-plain k g o d =
       let w = worded PROCESS h o.worded in
@@ -306,7 +306,7 @@ module _ {s : List ℕ} {p : Reached} {t : Look} (h : p.at ≤ length s) (f : p.
         ahead = omega (arith, w.ahead, d.ahead);
         inside = d.inside;
         moves = λ _ ss m u. w.moves processes record { push = process_body ∷ processes ∷ []; build = λ ws. labelled none ws.0 ∷ ws.1.0 } refl
-            (λ _ small i. rw (ne_eqb _ 108 (λ z. k (ap (λ (v : Look). v.kind) e ∙ z)), ne_eqb _ 8 i, ne_eqb _ 2 (λ z. g (ap (λ (v : Look). v.kind) e ∙ z)))) ss m (omega arith)
+            (λ _ small i. rw (ne_eqb _ 108 (λ z. k (ap kind_seen e ∙ z)), ne_eqb _ 8 i, ne_eqb _ 2 (λ z. g (ap kind_seen e ∙ z)))) ss m (omega arith)
             ∙ d.moves tt (processes ∷ ss) _ (omega arith);
         judges = λ z.
             let i = o.judged (d.fine z) in
@@ -315,7 +315,7 @@ module _ {s : List ℕ} {p : Reached} {t : Look} (h : p.at ≤ length s) (f : p.
 
   -- {process} `end`
 
-  pub processes_end : {l v : List ℕ} → t.kind ≡ 2 → Reads (whole processes processes_end_roles processes_draft) s 32 p (past t p.next) l l v v
+  pub processes_end : {l v : List ℕ} → kind_seen t ≡ 2 → Reads (whole processes processes_end_roles processes_draft) s 32 p (past t p.next) l l v v
   processes_end k =
       let x = seen-there h e (λ z. omega arith) in
       record {

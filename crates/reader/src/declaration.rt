@@ -7,7 +7,8 @@ ghost use Rattle.reading.specs.Inside.Reading.{Ready, Reads, whole, declares_rol
 
 use emission::start_values;
 use ledger::{SIGNALS, declare};
-use look::{Look, peek};
+use look::peek;
+use look::token::Token;
 use reading::{Spot, Unfit, token, word};
 
 // A name in a declaration.
@@ -15,7 +16,7 @@ fn declared(text: &[u8], ledger: &mut [u64; 328], p: Spot) -> Result<Spot, Unfit
     requires { Ready 0 text.now (at_spot p) ledger.old }
     ensures { (v : List ℕ) → Reads (whole a_name declares_roles with_name) text.now 32 (at_spot p) (reached result) ledger.old ledger.new v v }
 {
-    let t = token(text, p.at, Look::NAME)?;
+    let t = token(text, p.at, Token::Name)?;
     declare(text, ledger, t);
     Ok(p.past(t))
 }
@@ -32,18 +33,15 @@ fn initial(
     ensures { (l : List ℕ) → upto ≡ get_or l 2 0 → Reads (whole initial_value initial_roles (initial_draft first)) text.now 32 (at_spot p) (reached result) l l table.old table.new }
 {
     let t = peek(text, p.at);
-    if t.kind != Look::BECOMES {
-        return word(text, p, Look::SEMICOLON);
+    if t.token != Token::Becomes {
+        return word(text, p, Token::Semicolon);
     }
     let u = peek(text, t.end);
-    if u.kind < Look::TRUE {
+    if !u.token.is_literal() {
         return Err(Unfit::NoSentence(u.start));
     }
-    if Look::FALSE < u.kind {
-        return Err(Unfit::NoSentence(u.start));
-    }
-    start_values(table, first, upto, u.kind);
-    word(text, p.past(u), Look::SEMICOLON)
+    start_values(table, first, upto, u.token);
+    word(text, p.past(u), Token::Semicolon)
 }
 
 // {`,` name} `:` `boolean` [`:=` literal] `;`
@@ -60,9 +58,9 @@ fn more_signals(
     let mut p = first;
     loop {
         let t = peek(text, p.at);
-        if t.kind != Look::COMMA {
-            let a = word(text, p, Look::COLON)?;
-            let b = word(text, a, Look::BOOLEAN)?;
+        if t.token != Token::Comma {
+            let a = word(text, p, Token::Colon)?;
+            let b = word(text, a, Token::Boolean)?;
             let upto = ledger[SIGNALS] as usize;
             return initial(text, table, b, from, upto);
         }
@@ -83,8 +81,8 @@ pub fn declarations(
     let mut p = first;
     loop {
         let t = peek(text, p.at);
-        if t.kind != Look::SIGNAL {
-            return word(text, p, Look::BEGIN);
+        if t.token != Token::Signal {
+            return word(text, p, Token::Begin);
         }
         let from = ledger[SIGNALS] as usize;
         let a = declared(text, ledger, p.past(t))?;

@@ -2,6 +2,7 @@
 ghost use Rattle.std.specs.Prelude.{◌≡◌, List, ℕ, ◌≤◌, ◌<◌, length};
 ghost use Rattle.syntax.proofs.Rows.{Part, a_name, part_word, closing as closing_part};
 ghost use Rattle.look.specs.Inside.Looks.{name_at};
+ghost use Rattle.look.specs.Inside.Tokens.{number_of};
 ghost use Rattle.look.proofs.Numbers.{fixed_kind};
 ghost use Rattle.ledger.specs.Inside.Standing.{Sound, Keeps, Span};
 ghost use Rattle.std.proofs.Math.Option.{some};
@@ -16,6 +17,7 @@ use crate::declaration::declarations;
 use crate::process::{closing_name, process_list};
 use ledger::{NUMBER, PLACE, belong, fresh};
 use lexis::token::first_refused;
+use look::token::Token;
 use look::{Look, peek};
 use reading::{Spot, Unfit, token, word};
 use refusal::{Reason, Refusal};
@@ -25,7 +27,7 @@ fn of_name(text: &[u8], ledger: &mut [u64; 328], p: Spot, entity: Look) -> Resul
     requires { Ready 0 text.now (at_spot p) ledger.old × Span text.now entity.start entity.end }
     ensures { (v : List ℕ) → Reads (whole a_name (belongs_roles (name_at text.now entity.start entity.end)) silent) text.now 32 (at_spot p) (reached result) ledger.old ledger.new v v }
 {
-    let t = token(text, p.at, Look::NAME)?;
+    let t = token(text, p.at, Token::Name)?;
     belong(text, ledger, entity, t);
     Ok(p.past(t))
 }
@@ -35,14 +37,14 @@ fn closing(
     text: &[u8],
     ledger: &mut [u64; 328],
     p: Spot,
-    kind: usize,
+    part: Token,
     own: Look,
 ) -> Result<Spot, Unfit>
-    requires { Ready 0 text.now (at_spot p) ledger.old × Span text.now own.start own.end × (kind < 117) }
-    ensures { (u : Part) → kind ≡ fixed_kind (part_word u) → (v : List ℕ) → Reads (whole (closing_part u) (closing_part_roles (some (name_at text.now own.start own.end))) silent) text.now 32 (at_spot p) (reached result) ledger.old ledger.new v v }
+    requires { Ready 0 text.now (at_spot p) ledger.old × Span text.now own.start own.end × (number_of part < 117) }
+    ensures { (u : Part) → number_of part ≡ fixed_kind (part_word u) → (v : List ℕ) → Reads (whole (closing_part u) (closing_part_roles (some (name_at text.now own.start own.end))) silent) text.now 32 (at_spot p) (reached result) ledger.old ledger.new v v }
 {
     let t = peek(text, p.at);
-    if t.kind != kind {
+    if t.token != part {
         return closing_name(text, ledger, p, Some(own));
     }
     closing_name(text, ledger, p.past(t), Some(own))
@@ -53,7 +55,7 @@ fn finished(text: &[u8], p: Spot) -> Result<Spot, Unfit>
     requires { p.at ≤ length text.now }
     ensures { Finished text.now (at_spot p) (reached result) }
 {
-    token(text, p.at, Look::FINISH)?;
+    token(text, p.at, Token::Finish)?;
     Ok(p)
 }
 
@@ -68,14 +70,14 @@ fn architecture(
     requires { Ready 0 text.now (at_spot p) ledger.old × Span text.now entity.start entity.end }
     ensures { Behind text.now (name_at text.now entity.start entity.end) (at_spot p) (reached result) ledger.old ledger.new table.old table.new }
 {
-    let a = word(text, p, Look::ARCHITECTURE)?;
-    let own = token(text, a.at, Look::NAME)?;
-    let c = word(text, a.past(own), Look::OF)?;
+    let a = word(text, p, Token::Architecture)?;
+    let own = token(text, a.at, Token::Name)?;
+    let c = word(text, a.past(own), Token::Of)?;
     let d = of_name(text, ledger, c, entity)?;
-    let e = word(text, d, Look::IS)?;
+    let e = word(text, d, Token::Is)?;
     let f = declarations(text, ledger, table, e)?;
     let g = process_list(text, ledger, table, f)?;
-    let h = closing(text, ledger, g, Look::ARCHITECTURE, own)?;
+    let h = closing(text, ledger, g, Token::Architecture, own)?;
     finished(text, h)
 }
 
@@ -85,11 +87,11 @@ pub fn design(text: &[u8], ledger: &mut [u64; 328], table: &mut [u64]) -> Result
     ensures { Designed text.now (reached result) ledger.old ledger.new table.old table.new }
 {
     let p = Spot { at: 0, next: 0 };
-    let a = word(text, p, Look::ENTITY)?;
-    let own = token(text, a.at, Look::NAME)?;
-    let c = word(text, a.past(own), Look::IS)?;
-    let d = word(text, c, Look::END)?;
-    let e = closing(text, ledger, d, Look::ENTITY, own)?;
+    let a = word(text, p, Token::Entity)?;
+    let own = token(text, a.at, Token::Name)?;
+    let c = word(text, a.past(own), Token::Is)?;
+    let d = word(text, c, Token::End)?;
+    let e = closing(text, ledger, d, Token::Entity, own)?;
     architecture(text, ledger, table, e, own)
 }
 

@@ -1,7 +1,7 @@
 // Processes.
 ghost use Rattle.std.specs.Prelude.{◌≡◌, List, ℕ, ◌≤◌, length};
 ghost use Rattle.syntax.proofs.Rows.{a_name, more_listed, closing_name, process_body, processes, beginning as beginning_symbol};
-ghost use Rattle.look.specs.Inside.Looks.{look_of};
+ghost use Rattle.look.specs.Inside.Looks.{kind_seen, look_of};
 ghost use Rattle.ledger.specs.Inside.Standing.{SpanIfAny, name_if_any};
 ghost use Rattle.emission.specs.Inside.Draft.{with_listener, processes_draft};
 ghost use Rattle.reading.specs.Inside.Spots.{at_spot, reached, Forward};
@@ -9,6 +9,7 @@ ghost use Rattle.reading.specs.Inside.Reading.{Ready, Reads, Opens, whole, a_lis
 
 use emission::{end_process, wake};
 use ledger::{PROCESSES, close, label, listen, open_process};
+use look::token::Token;
 use look::{Look, peek};
 use reading::{Spot, Unfit, token, word};
 use statements::statements;
@@ -18,7 +19,7 @@ fn listened(text: &[u8], ledger: &mut [u64; 328], table: &mut [u64], p: Spot) ->
     requires { Ready 0 text.now (at_spot p) ledger.old }
     ensures { Reads (whole a_name listens_roles with_listener) text.now 32 (at_spot p) (reached result) ledger.old ledger.new table.old table.new }
 {
-    let t = token(text, p.at, Look::NAME)?;
+    let t = token(text, p.at, Token::Name)?;
     let k = listen(text, ledger, t);
     wake(table, k, ledger[PROCESSES]);
     Ok(p.past(t))
@@ -37,8 +38,8 @@ fn more_listed(
     let mut p = first;
     loop {
         let t = peek(text, p.at);
-        if t.kind != Look::COMMA {
-            return word(text, p, Look::CLOSE);
+        if t.token != Token::Comma {
+            return word(text, p, Token::Close);
         }
         p = listened(text, ledger, table, p.past(t))?;
     }
@@ -50,7 +51,7 @@ fn list(text: &[u8], ledger: &mut [u64; 328], table: &mut [u64], p: Spot) -> Res
     ensures { Reads a_list text.now 32 (at_spot p) (reached result) ledger.old ledger.new table.old table.new }
 {
     let t = peek(text, p.at);
-    if t.kind != Look::OPEN {
+    if t.token != Token::Open {
         return Ok(p);
     }
     let a = listened(text, ledger, table, p.past(t))?;
@@ -63,10 +64,10 @@ fn beginning(text: &[u8], p: Spot) -> Result<Spot, Unfit>
     ensures { (l v : List ℕ) → Reads (whole beginning_symbol beginning_roles silent) text.now 32 (at_spot p) (reached result) l l v v }
 {
     let t = peek(text, p.at);
-    if t.kind != Look::IS {
-        return word(text, p, Look::BEGIN);
+    if t.token != Token::Is {
+        return word(text, p, Token::Begin);
     }
-    word(text, p.past(t), Look::BEGIN)
+    word(text, p.past(t), Token::Begin)
 }
 
 // [name] `;`, and the name of what is closed, where that has one.
@@ -80,11 +81,11 @@ pub fn closing_name(
     ensures { (v : List ℕ) → Reads (whole closing_name (closing_name_roles (name_if_any text.now own)) silent) text.now 32 (at_spot p) (reached result) ledger.old ledger.new v v }
 {
     let t = peek(text, p.at);
-    if t.kind != Look::NAME {
-        return word(text, p, Look::SEMICOLON);
+    if t.token != Token::Name {
+        return word(text, p, Token::Semicolon);
     }
     close(text, ledger, own, t);
-    word(text, p.past(t), Look::SEMICOLON)
+    word(text, p.past(t), Token::Semicolon)
 }
 
 // What follows the word `process`.
@@ -102,8 +103,8 @@ fn body(
     let b = beginning(text, a)?;
     let c = statements(text, ledger, table, b, 32)?;
     end_process(table, ledger[PROCESSES], c.next);
-    let d = word(text, c, Look::END)?;
-    let e = word(text, d, Look::PROCESS)?;
+    let d = word(text, c, Token::End)?;
+    let e = word(text, d, Token::Process)?;
     closing_name(text, ledger, e, own)
 }
 
@@ -112,7 +113,7 @@ fn opening(text: &[u8], ledger: &mut [u64; 328], p: Spot) -> Result<Spot, Unfit>
     requires { Ready 1 text.now (at_spot p) ledger.old }
     ensures { (v : List ℕ) → Opens text.now (at_spot p) (reached result) ledger.old ledger.new v }
 {
-    let t = token(text, p.at, Look::PROCESS)?;
+    let t = token(text, p.at, Token::Process)?;
     open_process(ledger, t.start);
     Ok(p.past(t))
 }
@@ -126,12 +127,12 @@ fn process(
     t: Look,
 ) -> Result<Spot, Unfit>
     requires ready { Ready 0 text.now (at_spot p) ledger.old }
-    requires first { (t ≡ look_of text.now p.at) × (t.kind ≡ 2 → ⊥) }
+    requires first { (t ≡ look_of text.now p.at) × (kind_seen t ≡ 2 → ⊥) }
     ensures { Reads a_process text.now 32 (at_spot p) (reached result) ledger.old ledger.new table.old table.new × Forward (at_spot p) (reached result) }
 {
-    if t.kind == Look::NAME {
+    if t.token == Token::Name {
         label(text, ledger, t);
-        let a = word(text, p.past(t), Look::COLON)?;
+        let a = word(text, p.past(t), Token::Colon)?;
         let b = opening(text, ledger, a)?;
         return body(text, ledger, table, b, Some(t));
     }
@@ -152,7 +153,7 @@ pub fn process_list(
     let mut p = first;
     loop {
         let t = peek(text, p.at);
-        if t.kind == Look::END {
+        if t.token == Token::End {
             return Ok(p.past(t));
         }
         p = process(text, ledger, table, p, t)?;

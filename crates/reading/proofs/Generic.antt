@@ -15,7 +15,7 @@ use Rattle.syntax.proofs.Rows.{Symbol, Value, rows}
 use Rattle.syntax.proofs.Laws.{fill, fill-closing}
 use Rattle.names.specs.Roles.{Role}
 use Rattle.look.specs.declared.Look.{Look}
-use Rattle.look.specs.Inside.Looks.{part, look_of}
+use Rattle.look.specs.Inside.Looks.{kind_seen, part, look_of}
 use Rattle.look.proofs.Looks.{View, there, gone, seen, seen-there}
 use Rattle.look.proofs.Numbers.{fixed_kind, taken_by}
 use Rattle.ledger.specs.Inside.Standing.{Span, Judges}
@@ -63,7 +63,7 @@ reads-off w {s} {room} {p} h f =
     }
 
 pub reads-stuck : (w : What) {s : List ℕ} {room : ℕ} {p : Reached} {n : ℕ} {l l' v v' : List ℕ} {t : Look} → p.at ≤ length s → p.number ≡ 0 → t ≡ look_of s p.at
-    → ((c : Context w) (small : t.kind < 117) → taken_by (part s t.start t.end) t.kind small (rows (top w c)) ≡ false)
+    → ((c : Context w) (small : kind_seen t < 117) → taken_by (part s t.start t.end) (kind_seen t) small (rows (top w c)) ≡ false)
     → Reads w s room p (unfit t n) l l' v v'
 reads-stuck w {s} {room} {p} {n} {t = t} h f e g =
     let sight = seen h e in
@@ -117,19 +117,19 @@ to_address s q n ss k = refl
 
 -- WHAT A CALL NEEDS
 
-pub span : {s : List ℕ} {at : ℕ} {t : Look} → at ≤ length s → t ≡ look_of s at → (t.kind ≡ 117 → ⊥) → Span s t.start t.end
+pub span : {s : List ℕ} {at : ℕ} {t : Look} → at ≤ length s → t ≡ look_of s at → (kind_seen t ≡ 117 → ⊥) → Span s t.start t.end
 span h e g = let x = seen-there h e g in record { rising = omega (arith, x.some); inside = x.inside }
 
 module _ {u : ℕ} {s : List ℕ} {p : Reached} {l : List ℕ} (r : Ready u s p l) where
   -- past a token that is judged, or that nothing is said of
-  pub ready-token : {u' : ℕ} {role : Role} {place n : ℕ} {t : Look} {l' : List ℕ} → p.number ≡ 0 → t ≡ look_of s p.at → (t.kind ≡ 117 → ⊥)
+  pub ready-token : {u' : ℕ} {role : Role} {place n : ℕ} {t : Look} {l' : List ℕ} → p.number ≡ 0 → t ≡ look_of s p.at → (kind_seen t ≡ 117 → ⊥)
       → Judges u u' s role place l l' → Ready u' s (past t n) l'
   ready-token f e g j =
       let x = seen-there r.inside e g in
       let d = r.sound f in
       record { inside = x.inside; sound = λ _. record { judgement = _; keeps = j.keeps d.judgement d.keeps } }
 
-  pub ready-pass : {n : ℕ} {t : Look} → p.number ≡ 0 → t ≡ look_of s p.at → (t.kind ≡ 117 → ⊥) → Ready u s (past t n) l
+  pub ready-pass : {n : ℕ} {t : Look} → p.number ≡ 0 → t ≡ look_of s p.at → (kind_seen t ≡ 117 → ⊥) → Ready u s (past t n) l
   ready-pass f e g = record { inside = (seen-there r.inside e g).inside; sound = λ _. r.sound f }
 
   pub ready-word : (w : Fixed) {q : Reached} → q ≡ word_of s p (fixed_kind w) → Ready u s q l

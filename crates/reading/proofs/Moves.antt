@@ -16,7 +16,7 @@ use Rattle.syntax.proofs.Rows.{Symbol, Value, rows, next}
 use Rattle.syntax.proofs.Nesting.{weight}
 use Rattle.syntax.proofs.Theorem.{run}
 use Rattle.look.specs.declared.Look.{Look}
-use Rattle.look.specs.Inside.Looks.{part, token_of_look}
+use Rattle.look.specs.Inside.Looks.{kind_seen, part, token_of_look}
 use Rattle.look.proofs.Looks.{There, Gone, View, there, gone}
 use Rattle.look.proofs.Numbers.{taken_by, stuck}
 use Rattle.reading.specs.Inside.Spots.{Reached, tokens_from, starts_from, placed_verdict, machine, verdict, past, unfit, deep}
@@ -62,15 +62,15 @@ machine_end {s} x X ss k = ap (λ (ls : List Placed). over s ls (X ∷ ss) k) x.
 
 -- no row of X takes the token
 pub machine_stuck : {s : List ℕ} {at : ℕ} {t : Look} → View s at t → (X : Symbol)
-    → ((small : t.kind < 117) → taken_by (part s t.start t.end) t.kind small (rows X) ≡ false)
+    → ((small : kind_seen t < 117) → taken_by (part s t.start t.end) (kind_seen t) small (rows X) ≡ false)
     → (ss : List Symbol) (k : Values Value (X ∷ ss) → Design) → machine s at (X ∷ ss) k ≡ refused3 t.start
-machine_stuck {s} {at} {t} (there x) X e ss k = machine-none x X ss k (stuck (part s t.start t.end) t.kind x.kind X (e x.kind))
+machine_stuck {s} {at} {t} (there x) X e ss k = machine-none x X ss k (stuck (part s t.start t.end) (kind_seen t) x.kind X (e x.kind))
 machine_stuck (gone x) X e ss k = machine_end x X ss k
 
 -- two symbols that do the same with this token
 pub machine_same : {s : List ℕ} {at : ℕ} {t : Look} → View s at t → (X Y : Symbol) (ss zs : List Symbol)
     (k : Values Value (X ∷ ss) → Design) (g : Values Value (Y ∷ zs) → Design)
-    → ((small : t.kind < 117) (ts : List Token) → run (token_of_look s t ∷ ts) (X ∷ ss) k ≡ run (token_of_look s t ∷ ts) (Y ∷ zs) g)
+    → ((small : kind_seen t < 117) (ts : List Token) → run (token_of_look s t ∷ ts) (X ∷ ss) k ≡ run (token_of_look s t ∷ ts) (Y ∷ zs) g)
     → machine s at (X ∷ ss) k ≡ machine s at (Y ∷ zs) g
 unfolding machine
 machine_same {s} {at} {t} (there x) X Y ss zs k g e =
@@ -104,12 +104,12 @@ module _ (s : List ℕ) (p : Reached) where
     unfolding verdict
     deep-moves x st e ss zs k g h = on f (X ∷ ss) k ∙ machine-deep x X ss k st e h
 
-    pub stuck-moves : View s p.at t → ((small : t.kind < 117) → taken_by (part s t.start t.end) t.kind small (rows X) ≡ false)
+    pub stuck-moves : View s p.at t → ((small : kind_seen t < 117) → taken_by (part s t.start t.end) (kind_seen t) small (rows X) ≡ false)
         → (ss zs : List Symbol) (k : Values Value (X ∷ ss) → Design) (g : Values Value zs → Design) → verdict s p (X ∷ ss) k ≡ verdict s (unfit t n) zs g
     unfolding verdict
     stuck-moves x e ss zs k g = on f (X ∷ ss) k ∙ machine_stuck x X e ss k
 
     pub same_moves : View s p.at t → (Y : Symbol) (ss zs : List Symbol) (k : Values Value (X ∷ ss) → Design) (g : Values Value (Y ∷ zs) → Design)
-        → ((small : t.kind < 117) (ts : List Token) → run (token_of_look s t ∷ ts) (X ∷ ss) k ≡ run (token_of_look s t ∷ ts) (Y ∷ zs) g)
+        → ((small : kind_seen t < 117) (ts : List Token) → run (token_of_look s t ∷ ts) (X ∷ ss) k ≡ run (token_of_look s t ∷ ts) (Y ∷ zs) g)
         → verdict s p (X ∷ ss) k ≡ verdict s p (Y ∷ zs) g
     same_moves x Y ss zs k g e = on f (X ∷ ss) k ∙ machine_same x X Y ss zs k g e ∙ sym (on f (Y ∷ zs) g)

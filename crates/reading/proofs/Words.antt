@@ -18,7 +18,7 @@ use Rattle.syntax.proofs.Rows.{Symbol, the_word, Value, rows, next}
 use Rattle.syntax.proofs.Nesting.{weight}
 use Rattle.names.specs.Roles.{passes}
 use Rattle.look.specs.declared.Look.{Look}
-use Rattle.look.specs.Inside.Looks.{part, look_of}
+use Rattle.look.specs.Inside.Looks.{kind_seen, part, look_of}
 use Rattle.look.proofs.Looks.{There, View, there, gone, seen}
 use Rattle.look.proofs.Numbers.{fixed_kind, taken_by, fixed-seen}
 use Rattle.reading.specs.Inside.Spots.{Reached, verdict, Judged, past, unfit, word_from, word_of}
@@ -28,11 +28,11 @@ use Rattle.reading.proofs.Judging.{passes-judged}
 -- what can have happened
 data Way (s : List ℕ) (p : Reached) (kind : ℕ) : Reached → Type 0 where
   stays : (p.number ≡ 0 → ⊥) → Way s p kind p
-  takes : {t : Look} → p.number ≡ 0 → There s p.at t → t.kind ≡ kind → Way s p kind (past t p.next)
-  refuses : {t : Look} {n : ℕ} → p.number ≡ 0 → t ≡ look_of s p.at → (t.kind ≡ kind → ⊥) → Way s p kind (unfit t n)
+  takes : {t : Look} → p.number ≡ 0 → There s p.at t → kind_seen t ≡ kind → Way s p kind (past t p.next)
+  refuses : {t : Look} {n : ℕ} → p.number ≡ 0 → t ≡ look_of s p.at → (kind_seen t ≡ kind → ⊥) → Way s p kind (unfit t n)
 
 by_kind : (s : List ℕ) (p : Reached) (kind : ℕ) (t : Look) → (kind ≡ 117 → ⊥) → p.number ≡ 0 → t ≡ look_of s p.at → View s p.at t
-    → (b : Bool) → eqb t.kind kind ≡ b → Way s p kind (pick b (past t p.next) (unfit t 0))
+    → (b : Bool) → eqb (kind_seen t) kind ≡ b → Way s p kind (pick b (past t p.next) (unfit t 0))
 by_kind s p kind t g f e (there x) true b = takes f x (eqb-true _ _ b)
 by_kind s p kind t g f e (gone x) true b = absurd (g (sym (eqb-true _ _ b) ∙ x.kind))
 by_kind s p kind t g f e v false b = refuses f e (λ h. let z : ◌≡◌ {A = Bool} true false = sym (eq-eqb _ _ h) ∙ b in let o : ◌≡◌ {A = ℕ} 0 1 = cc in omega arith)
@@ -42,12 +42,12 @@ unfolding word_of
 way s p kind h g = go (eqb p.number 0) refl
   where
     go : (b : Bool) → eqb p.number 0 ≡ b → Way s p kind (pick b (word_from (look_of s p.at) p kind) p)
-    go true e = by_kind s p kind (look_of s p.at) g (eqb-true _ _ e) refl (seen h refl) (eqb (look_of s p.at).kind kind) refl
+    go true e = by_kind s p kind (look_of s p.at) g (eqb-true _ _ e) refl (seen h refl) (eqb (kind_seen (look_of s p.at)) kind) refl
     go false e = stays (λ f. let z : ◌≡◌ {A = Bool} true false = sym (eq-eqb _ _ f) ∙ e in let o : ◌≡◌ {A = ℕ} 0 1 = cc in omega arith)
 
 -- X takes the word and no other token that may stand at p
 abbrev pub OnlyAt : List ℕ → Symbol → Fixed → Look → Type 0
-OnlyAt s X w t = (small : t.kind < 117) → (t.kind ≡ fixed_kind w → ⊥) → taken_by (part s t.start t.end) t.kind small (rows X) ≡ false
+OnlyAt s X w t = (small : kind_seen t < 117) → (kind_seen t ≡ fixed_kind w → ⊥) → taken_by (part s t.start t.end) (kind_seen t) small (rows X) ≡ false
 
 abbrev pub Only : List ℕ → Reached → Symbol → Fixed → Type 0
 Only s p X w = p.number ≡ 0 → OnlyAt s X w (look_of s p.at)

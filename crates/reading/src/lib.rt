@@ -2,8 +2,10 @@
 #![tactic(auto)]
 
 ghost use Rattle.std.specs.Prelude.{◌≡◌, ◌≤◌, length};
+ghost use Rattle.look.specs.Inside.Tokens.{number_of};
 ghost use Rattle.reading.specs.Inside.Spots.{at_spot, reached, refusal_of, word_of, TokenAt};
 
+use look::token::Token;
 use look::{Look, peek};
 use refusal::{Reason, Refusal};
 
@@ -51,13 +53,13 @@ impl From<Unfit> for Refusal {
     }
 }
 
-// The next token, which is to be of a kind.
-pub fn token(text: &[u8], at: usize, kind: usize) -> Result<Look, Unfit>
+// The next token, which is to be the one wanted.
+pub fn token(text: &[u8], at: usize, wanted: Token) -> Result<Look, Unfit>
     requires { at ≤ length text.now }
-    ensures { TokenAt text.now at kind result }
+    ensures { TokenAt text.now at (number_of wanted) result }
 {
     let t = peek(text, at);
-    if t.kind == kind {
+    if t.token == wanted {
         Ok(t)
     } else {
         Err(Unfit::NoSentence(t.start))
@@ -65,10 +67,10 @@ pub fn token(text: &[u8], at: usize, kind: usize) -> Result<Look, Unfit>
 }
 
 // A word or mark.
-pub fn word(text: &[u8], p: Spot, kind: usize) -> Result<Spot, Unfit>
+pub fn word(text: &[u8], p: Spot, wanted: Token) -> Result<Spot, Unfit>
     requires { p.at ≤ length text.now }
-    ensures { reached result ≡ word_of text.now (at_spot p) kind }
+    ensures { reached result ≡ word_of text.now (at_spot p) (number_of wanted) }
 {
-    let t = token(text, p.at, kind)?;
+    let t = token(text, p.at, wanted)?;
     Ok(p.past(t))
 }

@@ -10,7 +10,6 @@ use lib.Dec.{eqb, ltb}
 use lib.ListN.{length, get_or}
 use borrow.Author.Tests.{ne_eqb, eqb-true, ltb-false}
 use Rattle.laws.specs.Pick.{pick}
-use Rattle.laws.proofs.Ranges.{within-below, within-above}
 use Rattle.words.specs.Token.{Name, AFTER, IF, THEN, ELSE, END, NULL, SEMICOLON, ARROW, TRANSPORT, fixed}
 use Rattle.words.specs.Integer.{value_of}
 use Rattle.words.specs.Unit.{femtoseconds_of, longest}
@@ -27,9 +26,11 @@ use Rattle.names.specs.Judge.{State, fine, refused, judge, number_of}
 use Rattle.names.specs.CircuitOf.{delay_femtoseconds}
 use Rattle.emission.specs.Inside.Draft.{Draft, placed, following, aimed, put, with_targets, expression_draft, statements_draft, statement_draft, otherwise_draft}
 use Rattle.look.specs.declared.Look.{Look}
-use Rattle.look.specs.Inside.Looks.{part, name_at, look_of, token_of_look, unit_of}
+use Rattle.look.specs.Inside.Looks.{kind_seen, part, name_at, look_of, token_of_look}
+use Rattle.look.specs.Inside.Tokens.{unit_seen}
+use Rattle.look.proofs.Tokens.{unit-found, unit-met, no-unit}
 use Rattle.look.proofs.Looks.{seen, seen-there}
-use Rattle.look.proofs.Numbers.{taken_by, misfit, unit-token, name-seen, integer-seen, fixed-seen}
+use Rattle.look.proofs.Numbers.{taken_by, misfit, name-seen, integer-seen, fixed-seen}
 use Rattle.ledger.specs.Inside.Standing.{Span, Keeps, keeps_fine, Judges, Numbers, Lasts}
 use Rattle.reading.specs.Inside.Spots.{Reached, reached, verdict, drafted, Judged, addressed, past, unfit, deep, word_of, end_if_of, starter, Stops}
 use Rattle.reading.specs.Inside.Reading.{an_expression, a_statement, some_statements, closes, onto, ending_roles, finish_roles, Reads}
@@ -40,7 +41,7 @@ use Rattle.reading.proofs.Generic.{numbered, word-off, reads-stays, reads-ends, 
 use Rattle.statements.specs.Inside.Ending.{ending_reached, ending_delay, an_ending, Ends}
 use Rattle.statements.specs.declared.Ending.{Ending}
 use Rattle.reading.specs.declared.Unfit.{Unfit}
-use Rattle.std.specs.Prelude.{Result, Err, IsErrAnd}
+use Rattle.std.specs.Prelude.{Result, Err, IsErrAnd, Some, None}
 use Rattle.std.proofs.lemmas.Result.{err_from_is_err_and}
 
 -- a delay that is not refused is not too long
@@ -74,7 +75,7 @@ pub end_if-off : (s : List ℕ) (q : Reached) → (q.number ≡ 0 → ⊥) → q
 end_if-off s q f = word-off s q 114 f ∙ ap (λ (x : Reached). word_of s x 114) (word-off s q 11 f ∙ ap (λ (x : Reached). word_of s x 11) (word-off s q 2 f))
 
 -- the integer behind `after`
-pub integer-span : {s : List ℕ} {at : ℕ} {i : Look} → at ≤ length s → (look_of s at).kind ≡ 10 → i ≡ look_of s (look_of s at).end → i.kind ≡ 109 → Span s i.start i.end
+pub integer-span : {s : List ℕ} {at : ℕ} {i : Look} → at ≤ length s → kind_seen (look_of s at) ≡ 10 → i ≡ look_of s (look_of s at).end → kind_seen i ≡ 109 → Span s i.start i.end
 integer-span h k e g = span (seen-there h refl (λ z. omega arith)).inside e (λ z. omega arith)
 
 -- [`after` integer unit] `;`
@@ -132,7 +133,7 @@ if_judged {a = a} {b} {r} {v5 = v5} x ss o c e1 e2 d e3 e4 last e5 e6 =
     (e6 ∙ ap (λ (u : List ℕ). aimed u b.next 11 r.next) (e5 ∙ ap (aimed v5 a.next 10) e3)))
 
 module _ {s : List ℕ} {room : ℕ} {p : Reached} {l v : List ℕ} {t : Look} (h : p.at ≤ length s) (f : p.number ≡ 0) (e : t ≡ look_of s p.at) where
-  pub ending_none : {q : Reached} → (t.kind ≡ 10 → ⊥) → q ≡ word_of s p 114 → Ends s room p q 0 l l v
+  pub ending_none : {q : Reached} → (kind_seen t ≡ 10 → ⊥) → q ≡ word_of s p 114 → Ends s room p q 0 l l v
   ending_none {q} k e2 =
       let w = worded SEMICOLON h e2 in
       record {
@@ -142,15 +143,15 @@ module _ {s : List ℕ} {room : ℕ} {p : Reached} {l v : List ℕ} {t : Look} (
           ahead = w.ahead;
           inside = w.inside;
           moves = λ c ss m u. same_moves s p f 0 (an_end in_assignment) (seen h e) (the_word SEMICOLON) ss ss m (λ vs. m (immediate, vs.1))
-              (λ small ts. missing-laws.delay-missing (token_of_look s t) ts ss (misfit (part s t.start t.end) t.kind small (the_fixed AFTER) (ne_eqb t.kind 10 k)) m)
+              (λ small ts. missing-laws.delay-missing (token_of_look s t) ts ss (misfit (part s t.start t.end) (kind_seen t) small (the_fixed AFTER) (ne_eqb (kind_seen t) 10 k)) m)
               ∙ w.moves (the_word SEMICOLON) record { push = []; build = λ _. tt } refl (only-word s p SEMICOLON) ss _ (omega arith);
           judges = λ g. w.judges g;
         };
         lasts = λ z y y' d g. refl;
       }
 
-  module _ (k : t.kind ≡ 10) {i : Look} (e2 : i ≡ look_of s t.end) where
-    pub ending_no_integer : (n : ℕ) {l' : List ℕ} → (i.kind ≡ 109 → ⊥) → Reads an_ending s room p (unfit i n) l l' v v
+  module _ (k : kind_seen t ≡ 10) {i : Look} (e2 : i ≡ look_of s t.end) where
+    pub ending_no_integer : (n : ℕ) {l' : List ℕ} → (kind_seen i ≡ 109 → ⊥) → Reads an_ending s room p (unfit i n) l l' v v
     ending_no_integer n g =
         let x = seen-there h e (λ z. omega arith) in
         let y = seen x.inside e2 in
@@ -160,12 +161,12 @@ module _ {s : List ℕ} {room : ℕ} {p : Reached} {l v : List ℕ} {t : Look} (
           ahead = omega (arith, x.after, x.some, near y x.inside);
           inside = within_text y;
           moves = λ c ss m u. some_moves s p f n (an_end in_assignment) x after_step (ap (next (an_end in_assignment)) (fixed-seen s t AFTER k)) ss m (omega arith)
-              ∙ stuck-moves s (past t n) refl n an_integer y (λ small. rw (ne_eqb i.kind 109 g)) (a_unit ∷ the_word SEMICOLON ∷ ss) ss _ (λ us. m (immediate, us));
+              ∙ stuck-moves s (past t n) refl n an_integer y (λ small. rw (ne_eqb (kind_seen i) 109 g)) (a_unit ∷ the_word SEMICOLON ∷ ss) ss _ (λ us. m (immediate, us));
           judges = λ z. absurd (omega (arith, z));
         }
 
-    module _ (k2 : i.kind ≡ 109) {u : Look} (e3 : u ≡ look_of s i.end) where
-      no_unit : (n : ℕ) {l' : List ℕ} → ((small : u.kind < 117) → taken_by (part s u.start u.end) u.kind small (rows a_unit) ≡ false) → Reads an_ending s room p (unfit u n) l l' v v
+    module _ (k2 : kind_seen i ≡ 109) {u : Look} (e3 : u ≡ look_of s i.end) where
+      no_unit : (n : ℕ) {l' : List ℕ} → ((small : kind_seen u < 117) → taken_by (part s u.start u.end) (kind_seen u) small (rows a_unit) ≡ false) → Reads an_ending s room p (unfit u n) l l' v v
       no_unit n g =
           let x = seen-there h e (λ z. omega arith) in
           let x2 = seen-there x.inside e2 (λ z. omega arith) in
@@ -181,41 +182,39 @@ module _ {s : List ℕ} {room : ℕ} {p : Reached} {l v : List ℕ} {t : Look} (
             judges = λ z. absurd (omega (arith, z));
           }
 
-      pub ending_low : (n : ℕ) {l' : List ℕ} → u.kind < 24 → Reads an_ending s room p (unfit u n) l l' v v
-      ending_low n g = no_unit n (λ small. rw (within-below 24 31 u.kind g))
+      pub ending_no_unit : (n : ℕ) {l' : List ℕ} → unit_seen u.token ≡ None → Reads an_ending s room p (unfit u n) l l' v v
+      ending_no_unit n g = no_unit n (λ small. rw (no-unit u.token g))
 
-      pub ending_high : (n : ℕ) {l' : List ℕ} → 31 < u.kind → Reads an_ending s room p (unfit u n) l l' v v
-      ending_high n g = no_unit n (λ small. rw (within-above 24 31 u.kind g))
-
-      pub ending_after : {q : Reached} {delay : ℕ} {l' : List ℕ} → 24 ≤ u.kind → u.kind ≤ 31
-          → Judges 0 0 s (delays (value_of (part s i.start i.end)) (unit_of u.kind)) i.start l l'
-          → Lasts l (value_of (part s i.start i.end)) (unit_of u.kind) delay → q ≡ word_of s (past u p.next) 114 → Ends s room p q delay l l' v
+      pub ending_after : {q : Reached} {delay : ℕ} {l' : List ℕ} {time : TimeUnit} → unit_seen u.token ≡ Some time
+          → Judges 0 0 s (delays (value_of (part s i.start i.end)) time) i.start l l'
+          → Lasts l (value_of (part s i.start i.end)) time delay → q ≡ word_of s (past u p.next) 114 → Ends s room p q delay l l' v
       unfolding then_judged token-judged passes-judged
-      ending_after lo hi j d e4 =
+      ending_after {time = time} g1 j d e4 =
           let n = p.next in
+          let hi : kind_seen u < 32 = (unit-found u.token time g1).1 in
           let x = seen-there h e (λ z. omega arith) in
           let x2 = seen-there x.inside e2 (λ z. omega arith) in
           let x3 = seen-there x2.inside e3 (λ z. omega arith) in
           let w = worded SEMICOLON x3.inside e4 in
           record {
             reads = record {
-              tree = after (value_of (part s i.start i.end)) (unit_of u.kind);
+              tree = after (value_of (part s i.start i.end)) time;
               fine = λ _. f;
               ahead = omega (arith, x.after, x.some, x2.after, x2.some, x3.after, x3.some, w.ahead);
               inside = w.inside;
               moves = λ c ss m o. some_moves s p f n (an_end in_assignment) x after_step (ap (next (an_end in_assignment)) (fixed-seen s t AFTER k)) ss m (omega arith)
                   ∙ some_moves s (past t n) refl n an_integer x2 record { push = []; build = λ _. value_of (part s i.start i.end) } (ap (next an_integer) (integer-seen s i k2)) (a_unit ∷ the_word SEMICOLON ∷ ss) _ (omega arith)
-                  ∙ some_moves s (past i n) refl n a_unit x3 record { push = []; build = λ _. unit_of u.kind } (ap (next a_unit) (unit-token (part s u.start u.end) u.kind lo (omega arith))) (the_word SEMICOLON ∷ ss) _ (omega arith)
+                  ∙ some_moves s (past i n) refl n a_unit x3 record { push = []; build = λ _. time } (ap (next a_unit) (unit-met (part s u.start u.end) u.token time g1)) (the_word SEMICOLON ∷ ss) _ (omega arith)
                   ∙ w.moves (the_word SEMICOLON) record { push = []; build = λ _. tt } refl (only-word s (past u n) SEMICOLON) ss _ (omega arith);
-              judges = λ z. then_judged (passes-judged x) (then_judged (token-judged x2 (delays (value_of (part s i.start i.end)) (unit_of u.kind)) j) (then_judged (passes-judged x3) (w.judges z)));
+              judges = λ z. then_judged (passes-judged x) (then_judged (token-judged x2 (delays (value_of (part s i.start i.end)) time) j) (then_judged (passes-judged x3) (w.judges z)));
             };
             lasts = λ z y y' keeps g.
-                d.time_is (clear keeps) (not-long y (value_of (part s i.start i.end)) i.start (unit_of u.kind) (fine_before (w.judges z) (judge y (delays (value_of (part s i.start i.end)) (unit_of u.kind)) i.start) g).is);
+                d.time_is (clear keeps) (not-long y (value_of (part s i.start i.end)) i.start time (fine_before (w.judges z) (judge y (delays (value_of (part s i.start i.end)) time) i.start) g).is);
           }
 
   -- ONE STATEMENT
 
-  pub statement_assignment : {m number delay : ℕ} {a b q r : Reached} {l1 l2 l3 v1 v2 : List ℕ} → t.kind ≡ 108
+  pub statement_assignment : {m number delay : ℕ} {a b q r : Reached} {l1 l2 l3 v1 v2 : List ℕ} → kind_seen t ≡ 108
       → Judges 0 0 s (assigns (name_at s t.start t.end)) t.start l l1 → Numbers s l (name_at s t.start t.end) number
       → a ≡ word_of s (past t p.next) 115 → b ≡ word_of s a 9 → Reads an_expression s room b q l1 l2 v v1 → Ends s room q r delay l2 l3 v1
       → m ≡ following r.next → v2 ≡ placed v1 r.next (9 + 16 * number) delay → Reads a_statement s room p (addressed r m) l l3 v v2
@@ -249,7 +248,7 @@ module _ {s : List ℕ} {room : ℕ} {p : Reached} {l v : List ℕ} {t : Look} (
             (then_judged (token-judged x (assigns (name_at s t.start t.end)) j) (then_judged (w1.judges fa) (then_judged (w2.judges fb) (d.judges fq)))) ends z is e3 e4;
       }
 
-  pub statement_deep : {n : ℕ} {l' v' : List ℕ} → t.kind ≡ 11 → room ≡ 0 → Reads a_statement s room p (deep t n) l l' v v'
+  pub statement_deep : {n : ℕ} {l' v' : List ℕ} → kind_seen t ≡ 11 → room ≡ 0 → Reads a_statement s room p (deep t n) l l' v v'
   statement_deep {n} k z =
       let x = seen-there h e (λ z. omega arith) in
       record {
@@ -262,7 +261,7 @@ module _ {s : List ℕ} {room : ℕ} {p : Reached} {l v : List ℕ} {t : Look} (
         judges = λ z. absurd (omega (arith, z));
       }
 
-  pub statement_if : {m1 m2 : ℕ} {a q b r : Reached} {l1 l2 l3 l4 v1 v2 v3 v4 v5 v6 v7 : List ℕ} → t.kind ≡ 11 → (room ≡ 0 → ⊥) → Judges 0 0 s (counts 2) t.start l l1
+  pub statement_if : {m1 m2 : ℕ} {a q b r : Reached} {l1 l2 l3 l4 v1 v2 v3 v4 v5 v6 v7 : List ℕ} → kind_seen t ≡ 11 → (room ≡ 0 → ⊥) → Judges 0 0 s (counts 2) t.start l l1
       → Reads an_expression s (room - 1) (past t p.next) q l1 l2 v v1 → a ≡ word_of s q 12
       → m1 ≡ following a.next → v2 ≡ placed v1 a.next 10 0 → Reads some_statements s (room - 1) (addressed a m1) b l2 l3 v2 v3
       → m2 ≡ following b.next → v4 ≡ placed v3 b.next 11 0 → Reads (closes in_then finish_roles otherwise_draft) s (room - 1) (addressed b m2) r l3 l4 v4 v5
@@ -291,7 +290,7 @@ module _ {s : List ℕ} {room : ℕ} {p : Reached} {l v : List ℕ} {t : Look} (
             if_judged d.tree o.tree o2.tree (then_judged (token-judged x (counts 2) j) (then_judged (d.judges fq) (w.judges fa))) i1 i2 (o.judges fb) i3 i4 (o2.judges z) i5 i6;
       }
 
-  pub statement_null : {q : Reached} → t.kind ≡ 14 → q ≡ word_of s (past t p.next) 114 → Reads a_statement s room p q l l v v
+  pub statement_null : {q : Reached} → kind_seen t ≡ 14 → q ≡ word_of s (past t p.next) 114 → Reads a_statement s room p q l l v v
   statement_null k e1 =
       let n = p.next in
       let x = seen-there h e (λ z. omega arith) in
@@ -337,19 +336,19 @@ none_of true b c d e g = e
 
 -- only `end` may stand there
 module _ (s : List ℕ) (p : Reached) (stops : Stops s p) where
-  only_then : (p.number ≡ 0 → (look_of s p.at).kind ≡ 13 → ⊥) → Only s p (statements in_then) END
+  only_then : (p.number ≡ 0 → kind_seen (look_of s p.at) ≡ 13 → ⊥) → Only s p (statements in_then) END
   only_then g f small o =
-      let k = (look_of s p.at).kind in
+      let k = kind_seen (look_of s p.at) in
       none_of (eqb k 108) (eqb k 11) (eqb k 14) (eqb k 13 || (eqb k 2 || false)) (stops.none f) (rw (ne_eqb k 13 (g f), ne_eqb k 2 o))
 
   only_else : Only s p (statements in_else) END
   only_else f small o =
-      let k = (look_of s p.at).kind in
+      let k = kind_seen (look_of s p.at) in
       none_of (eqb k 108) (eqb k 11) (eqb k 14) (eqb k 2 || false) (stops.none f) (rw (ne_eqb k 2 o))
 
   pub only-process : Only s p (statements in_process) END
   only-process f small o =
-      let k = (look_of s p.at).kind in
+      let k = kind_seen (look_of s p.at) in
       none_of (eqb k 108) (eqb k 11) (eqb k 14) (eqb k 2 || false) (stops.none f) (rw (ne_eqb k 2 o))
 
 -- `end` `if` `;`, where b is closed by it
@@ -378,12 +377,12 @@ closed {s} {p} {q} b v one n o h e =
     }
 
 module _ {s : List ℕ} {room : ℕ} {p : Reached} {l v : List ℕ} {t : Look} (h : p.at ≤ length s) (f : p.number ≡ 0) (e : t ≡ look_of s p.at) (stops : Stops s p) where
-  pub finish_end : {q : Reached} → (t.kind ≡ 13 → ⊥) → q ≡ end_if_of s p → Reads (closes in_then finish_roles otherwise_draft) s room p q l l v v
+  pub finish_end : {q : Reached} → (kind_seen t ≡ 13 → ⊥) → q ≡ end_if_of s p → Reads (closes in_then finish_roles otherwise_draft) s room p q l l v v
   finish_end g e1 =
-      let c = closed {s = s} {p = p} in_then missing refl refl (only_then s p stops (λ _ z. g (ap (λ (u : Look). u.kind) e ∙ z))) h e1 in
+      let c = closed {s = s} {p = p} in_then missing refl refl (only_then s p stops (λ _ z. g (ap kind_seen e ∙ z))) h e1 in
       record { tree = missing; fine = c.fine; ahead = c.ahead; inside = c.inside; moves = λ _ ss k u. c.moves ss k (omega arith); judges = λ z. c.judges z }
 
-  pub finish_else : {q r : Reached} {l' v' : List ℕ} → t.kind ≡ 13 → Reads some_statements s room (past t p.next) q l l' v v' → Stops s q → r ≡ end_if_of s q
+  pub finish_else : {q r : Reached} {l' v' : List ℕ} → kind_seen t ≡ 13 → Reads some_statements s room (past t p.next) q l l' v v' → Stops s q → r ≡ end_if_of s q
       → Reads (closes in_then finish_roles otherwise_draft) s room p r l l' v v'
   finish_else {q} {r} k d stops2 e1 =
       let x = seen-there h e (λ z. omega arith) in

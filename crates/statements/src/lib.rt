@@ -4,7 +4,8 @@
 ghost use Rattle.std.specs.Prelude.{◌≡◌, true, List, ℕ, ◌≤◌, length};
 ghost use Rattle.syntax.proofs.Rows.{in_then};
 ghost use Rattle.emission.specs.Inside.Draft.{otherwise_draft};
-ghost use Rattle.look.specs.Inside.Looks.{look_of};
+ghost use Rattle.look.specs.Inside.Looks.{kind_seen, look_of};
+ghost use Rattle.look.specs.Inside.Tokens.{number_of};
 ghost use Rattle.reading.specs.Inside.Spots.{at_spot, reached, Forward, end_if_of, starter, Stops};
 ghost use Rattle.reading.specs.Inside.Reading.{Ready, Reads, a_statement, some_statements, closes, finish_roles};
 ghost use Rattle.statements.specs.Inside.Ending.{ending_reached, ending_delay, Ends};
@@ -12,7 +13,8 @@ ghost use Rattle.statements.specs.Inside.Ending.{ending_reached, ending_delay, E
 use emission::{aim, emit};
 use expressions::expression;
 use ledger::{assign, count};
-use look::{Look, peek, unit_of};
+use look::token::Token;
+use look::{Look, peek};
 use reading::{Spot, Unfit, token, word};
 
 // Where reading stands behind an assignment, and its delay.
@@ -24,20 +26,16 @@ pub struct Ending {
 
 // unit `;`, behind `after`, which stands at p, and the integer i.
 fn unit_end(text: &[u8], ledger: &mut [u64; 328], p: Spot, i: Look) -> Result<Ending, Unfit>
-    requires ready { Ready 0 text.now (at_spot p) ledger.old × ((look_of text.now p.at).kind ≡ 10) }
-    requires i_value { (i ≡ look_of text.now (look_of text.now p.at).end) × (i.kind ≡ 109) }
+    requires ready { Ready 0 text.now (at_spot p) ledger.old × (kind_seen (look_of text.now p.at) ≡ 10) }
+    requires i_value { (i ≡ look_of text.now (look_of text.now p.at).end) × (kind_seen i ≡ 109) }
     ensures { (room : ℕ) (words : List ℕ) → Ends text.now room (at_spot p) (ending_reached result) (ending_delay result) ledger.old ledger.new words }
 {
     let u = peek(text, i.end);
-    if u.kind < Look::FS {
+    let Some(unit) = u.token.unit() else {
         return Err(Unfit::NoSentence(u.start));
-    }
-    if Look::HR < u.kind {
-        return Err(Unfit::NoSentence(u.start));
-    }
-    let unit = unit_of(u.kind);
+    };
     let delay = ledger::delay(text, ledger, i, unit);
-    let spot = word(text, p.past(u), Look::SEMICOLON)?;
+    let spot = word(text, p.past(u), Token::Semicolon)?;
     Ok(Ending { spot, delay })
 }
 
@@ -47,11 +45,11 @@ fn delay_end(text: &[u8], ledger: &mut [u64; 328], p: Spot) -> Result<Ending, Un
     ensures { (room : ℕ) (words : List ℕ) → Ends text.now room (at_spot p) (ending_reached result) (ending_delay result) ledger.old ledger.new words }
 {
     let t = peek(text, p.at);
-    if t.kind != Look::AFTER {
-        let spot = word(text, p, Look::SEMICOLON)?;
+    if t.token != Token::After {
+        let spot = word(text, p, Token::Semicolon)?;
         return Ok(Ending { spot, delay: 0 });
     }
-    let i = token(text, t.end, Look::INTEGER)?;
+    let i = token(text, t.end, Token::Integer)?;
     unit_end(text, ledger, p, i)
 }
 
@@ -65,12 +63,12 @@ fn assignment(
     room: usize,
 ) -> Result<Spot, Unfit>
     requires ready { Ready 0 text.now (at_spot p) ledger.old }
-    requires target { (t ≡ look_of text.now p.at) × (t.kind ≡ 108) }
+    requires target { (t ≡ look_of text.now p.at) × (kind_seen t ≡ 108) }
     ensures { Reads a_statement text.now room (at_spot p) (reached result) ledger.old ledger.new table.old table.new × Forward (at_spot p) (reached result) }
 {
     let k = assign(text, ledger, t);
-    let a = word(text, p.past(t), Look::ARROW)?;
-    let b = word(text, a, Look::TRANSPORT)?;
+    let a = word(text, p.past(t), Token::Arrow)?;
+    let b = word(text, a, Token::Transport)?;
     let e = expression(text, ledger, table, b, room)?;
     let d = delay_end(text, ledger, e)?;
     let next = emit(table, d.spot.next, (9 + 16 * k) as u64, d.delay);
@@ -85,16 +83,16 @@ fn end_if(text: &[u8], p: Spot) -> Result<Spot, Unfit>
     requires { p.at ≤ length text.now }
     ensures { reached result ≡ end_if_of text.now (at_spot p) }
 {
-    let a = word(text, p, Look::END)?;
-    let b = word(text, a, Look::IF)?;
-    word(text, b, Look::SEMICOLON)
+    let a = word(text, p, Token::End)?;
+    let b = word(text, a, Token::If)?;
+    word(text, b, Token::Semicolon)
 }
 
 // A statement begins with a name, `if` or `null`.
-fn starts(kind: usize) -> bool
-    ensures { result ≡ starter kind }
+fn starts(token: Token) -> bool
+    ensures { result ≡ starter (number_of token) }
 {
-    kind == Look::NAME || kind == Look::IF || kind == Look::NULL
+    matches!(token, Token::Name | Token::If | Token::Null)
 }
 
 // [`else` {statement}] `end` `if` `;`
@@ -110,7 +108,7 @@ fn finish(
     ensures { Reads (closes in_then finish_roles otherwise_draft) text.now room (at_spot p) (reached result) ledger.old ledger.new table.old table.new }
 {
     let t = peek(text, p.at);
-    if t.kind != Look::ELSE {
+    if t.token != Token::Else {
         return end_if(text, p);
     }
     let q = statements(text, ledger, table, p.past(t), room)?;
@@ -127,7 +125,7 @@ fn conditional(
     t: Look,
     room: usize,
 ) -> Result<Spot, Unfit>
-    requires { Ready 0 text.now (at_spot p) ledger.old × (t ≡ look_of text.now p.at) × (t.kind ≡ 11) }
+    requires { Ready 0 text.now (at_spot p) ledger.old × (t ≡ look_of text.now p.at) × (kind_seen t ≡ 11) }
     ensures { Reads a_statement text.now room (at_spot p) (reached result) ledger.old ledger.new table.old table.new × Forward (at_spot p) (reached result) }
 {
     if room == 0 {
@@ -135,7 +133,7 @@ fn conditional(
     }
     count(ledger, 2, t.start);
     let e = expression(text, ledger, table, p.past(t), room - 1)?;
-    let a = word(text, e, Look::THEN)?;
+    let a = word(text, e, Token::Then)?;
     let first = emit(table, a.next, 10, 0);
     let inside = Spot {
         at: a.at,
@@ -163,16 +161,14 @@ fn statement(
     t: Look,
     room: usize,
 ) -> Result<Spot, Unfit>
-    requires { Ready 0 text.now (at_spot p) ledger.old × (t ≡ look_of text.now p.at) × (starter t.kind ≡ true) }
+    requires { Ready 0 text.now (at_spot p) ledger.old × (t ≡ look_of text.now p.at) × (starter (kind_seen t) ≡ true) }
     ensures { Reads a_statement text.now room (at_spot p) (reached result) ledger.old ledger.new table.old table.new × Forward (at_spot p) (reached result) }
 {
-    if t.kind == Look::NAME {
-        return assignment(text, ledger, table, p, t, room);
+    match t.token {
+        Token::Name => assignment(text, ledger, table, p, t, room),
+        Token::If => conditional(text, ledger, table, p, t, room),
+        _ => word(text, p.past(t), Token::Semicolon),
     }
-    if t.kind == Look::IF {
-        return conditional(text, ledger, table, p, t, room);
-    }
-    word(text, p.past(t), Look::SEMICOLON)
 }
 
 // {statement}, up to a token that begins none.
@@ -190,7 +186,7 @@ pub fn statements(
     let mut p = first;
     loop {
         let t = peek(text, p.at);
-        if !starts(t.kind) {
+        if !starts(t.token) {
             return Ok(p);
         }
         p = statement(text, ledger, table, p, t, room)?;

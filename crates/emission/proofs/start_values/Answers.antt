@@ -6,7 +6,10 @@ use mathlib.Core.List.{List}
 use lib.ListN.{set}
 use Rattle.emission.specs.Inside.Draft.{ones}
 use Rattle.emission.proofs.Filling.{ones_more}
-use borrow.Author.Tests.{le-ltb, eq-eqb}
+use borrow.Author.Tests.{le-ltb}
+use Rattle.look.specs.declared.token.Token.TheVariants.{True}
+use Rattle.look.specs.Inside.Tokens.{number_of}
+use Rattle.look.proofs.Tokens.{ne-same}
 use Rattle.emission.proofs.start_values.Goals as goal
 
 pub loop-k-init : goal.loop-k-init
@@ -29,5 +32,5 @@ pub returns : goal.returns
 returns c =
     let a = c.args in
     let g : c.loop-k.k - a.from ≡ a.to - a.from = omega arith in
-    let e : a.kind ≡ 22 = omega arith in
-    rw (eq-eqb a.kind 22 e, le-ltb 64 a.to (omega arith), ← g) c.loop-k.invariant.1
+    let e : number_of a.word ≡ 22 = ne-same _ True c.if-ne.ensures in
+    rw (e, le-ltb 64 a.to c.if-to-gt64.false, ← g) c.loop-k.invariant.1

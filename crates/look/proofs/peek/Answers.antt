@@ -11,7 +11,7 @@ pub returns-in-Ok-Some : goal.returns-in-Ok-Some
 unfolding look_of
 returns-in-Ok-Some c =
     let e = ap scan_of (sym (rest c.args.text.now c.args.at)) ∙ sym c.next.ensures.scanned ∙ c.in-Ok-Some.is ∙ ap Ok c.in-Ok-Some.field-0-is in
-    rw (e, c.kind_of-number.ensures)
+    rw (e, c.kind_of-token.ensures)
 
 pub returns-in-Ok-None : goal.returns-in-Ok-None
 unfolding look_of

@@ -13,7 +13,7 @@ use Rattle.names.specs.Roles.{Role}
 use Rattle.names.specs.Judge.{State, Judgement, fine, onward, judged}
 use Rattle.emission.specs.Inside.Draft.{Draft}
 use Rattle.look.specs.declared.Look.{Look}
-use Rattle.look.specs.Inside.Looks.{look_of}
+use Rattle.look.specs.Inside.Looks.{kind_seen, look_of}
 use Rattle.ledger.specs.Inside.Standing.{Keeps}
 use Rattle.refusal.specs.declared.Refusal.{Refusal}
 use Rattle.refusal.specs.declared.Reason.TheVariants.{Sentence, Nesting}
@@ -102,15 +102,15 @@ abbrev pub deep : Look → ℕ → Reached
 deep t n = record { number = 4; at = t.start; next = n }
 
 abbrev pub word_from : Look → Reached → ℕ → Reached
-word_from t p kind = pick (eqb t.kind kind) (past t p.next) (unfit t 0)
+word_from t p kind = pick (eqb (kind_seen t) kind) (past t p.next) (unfit t 0)
 
 unfoldable pub word_of : List ℕ → Reached → ℕ → Reached
 word_of s p kind = pick (eqb p.number 0) (word_from (look_of s p.at) p kind) p
 
 -- the next token, where it is of the kind, or refusal 3
 abbrev pub TokenAt : List ℕ → ℕ → ℕ → Result Look Unfit → Type 0
-TokenAt s at kind (Ok t) = (t ≡ look_of s at) × (t.kind ≡ kind)
-TokenAt s at kind (Err e) = ((look_of s at).kind ≡ kind → ⊥) × (e ≡ NoSentence (look_of s at).start)
+TokenAt s at kind (Ok t) = (t ≡ look_of s at) × (kind_seen t ≡ kind)
+TokenAt s at kind (Err e) = (kind_seen (look_of s at) ≡ kind → ⊥) × (e ≡ NoSentence (look_of s at).start)
 
 -- something was read, or refused
 pub record Forward (p q : Reached) : Type 0 where
@@ -126,4 +126,4 @@ starter kind = eqb kind 108 || (eqb kind 11 || eqb kind 14)
 
 -- none begins here
 pub record Stops (s : List ℕ) (p : Reached) : Type 0 where
-  pub none : p.number ≡ 0 → starter (look_of s p.at).kind ≡ false
+  pub none : p.number ≡ 0 → starter (kind_seen (look_of s p.at)) ≡ false

@@ -1,9 +1,12 @@
 -- The readers of statements meet their contracts: each return by its law. The nesting room falls along the cycle.
 -- Assumes nothing.
+use Rattle.look.specs.declared.token.Token.TheVariants.{Name, If, Else}
+use Rattle.look.specs.Inside.Looks.{kind_seen}
+use Rattle.look.specs.Inside.Tokens.{number_of}
+use Rattle.look.proofs.Tokens.{one_token, ne-same, ne-other}
 use native.Mathlib.Omega.{arith}
 use mathlib.Core.Path.{◌≡◌, refl, sym, ap, ◌∙◌}
 use borrow.Author.Rules.{rules}
-use borrow.Author.Tests.{not-true, not-false}
 use Rattle.std.proofs.lemmas.Result.{err_from_is_err_and}
 use Rattle.words.specs.Token.{THEN, SEMICOLON}
 use Rattle.look.specs.declared.Look.{Look}
@@ -59,36 +62,36 @@ conditional-returns t c =
       record { more = λ z. omega (arith, x.after, x.some, e.ahead, w.ahead, b.0.ahead, q.ahead) },
     )
 
-pub finish-returns-then-t-ne-ELSE : goal.finish-returns-then-t-ne-ELSE
-finish-returns-then-t-ne-ELSE t c = finish_end c.requires.0.inside refl c.peek-t.ensures c.requires.1 c.if-t-ne-ELSE.true c.end_if.ensures
+pub finish-returns-then-ne : goal.finish-returns-then-ne
+finish-returns-then-ne t c = finish_end c.requires.0.inside refl c.peek-t.ensures c.requires.1 (ne-other _ Else c.if-ne.ensures) c.end_if.ensures
 
 pub finish-statements-requires : goal.finish-statements-requires
-finish-statements-requires t c = (omega (arith, c.decreases), rw c.past.ensures (ready-pass c.requires.0 refl c.peek-t.ensures (λ z. omega (arith, c.if-t-ne-ELSE.false, z))))
+finish-statements-requires t c = (omega (arith, c.decreases), rw c.past.ensures (ready-pass c.requires.0 refl c.peek-t.ensures (λ z. omega (arith, (ne-same _ Else c.if-ne.ensures), z))))
 
 pub finish-returns-in_err-q : goal.finish-returns-in_err-q
 finish-returns-in_err-q t c =
     let d = rw c.past.ensures at c.in_err-q.ensures in
-    reads-ends c.from_residual.result _ c.from_residual.ensures.1 (finish_else c.requires.0.inside refl c.peek-t.ensures c.requires.1 c.if-t-ne-ELSE.false d.0 d.1 (end_if-off _ _ (numbered c.in_err-q.field-0.0)))
+    reads-ends c.from_residual.result _ c.from_residual.ensures.1 (finish_else c.requires.0.inside refl c.peek-t.ensures c.requires.1 (ne-same _ Else c.if-ne.ensures) d.0 d.1 (end_if-off _ _ (numbered c.in_err-q.field-0.0)))
 
 pub finish-returns : goal.finish-returns
 finish-returns t c =
     let d = rw c.past.ensures at c.in_ok-q.ensures in
-    finish_else c.requires.0.inside refl c.peek-t.ensures c.requires.1 c.if-t-ne-ELSE.false d.0 d.1 c.end_if-2.ensures
+    finish_else c.requires.0.inside refl c.peek-t.ensures c.requires.1 (ne-same _ Else c.if-ne.ensures) d.0 d.1 c.end_if-2.ensures
 
 pub statement-assignment-requires : goal.statement-assignment-requires
-statement-assignment-requires t c = record { ready = c.requires.0; target = (c.requires.1, c.if-t-eq-NAME.true) }
+statement-assignment-requires t c = record { ready = c.requires.0; target = (c.requires.1, ap number_of c.in-Name.is) }
 
 pub statement-conditional-requires : goal.statement-conditional-requires
-statement-conditional-requires t c = (omega (arith, c.decreases), (c.requires.0, c.requires.1, c.if-t-eq-IF.true))
+statement-conditional-requires t c = (omega (arith, c.decreases), (c.requires.0, c.requires.1, ap number_of c.in-If.is))
 
 pub statement-word-requires : goal.statement-word-requires
 statement-word-requires t c =
-    let k : c.args.t.kind ≡ 14 = starter-null c.args.t.kind c.requires.2 c.if-t-eq-NAME.false c.if-t-eq-IF.false in
+    let k : kind_seen c.args.t ≡ 14 = starter-null (kind_seen c.args.t) c.requires.2 (λ z. c.in_default.not-Name (one_token _ Name z)) (λ z. c.in_default.not-If (one_token _ If z)) in
     rw c.past.ensures (seen-there c.requires.0.inside c.requires.1 (λ z. omega (arith, k, z))).inside
 
-pub statement-returns : goal.statement-returns
-statement-returns t c =
-    let k : c.args.t.kind ≡ 14 = starter-null c.args.t.kind c.requires.2 c.if-t-eq-NAME.false c.if-t-eq-IF.false in
+pub statement-returns-in_default : goal.statement-returns-in_default
+statement-returns-in_default t c =
+    let k : kind_seen c.args.t ≡ 14 = starter-null (kind_seen c.args.t) c.requires.2 (λ z. c.in_default.not-Name (one_token _ Name z)) (λ z. c.in_default.not-If (one_token _ If z)) in
     let x = seen-there c.requires.0.inside c.requires.1 (λ z. omega (arith, k, z)) in
     let d = rw c.past.ensures at c.word.ensures in
     let w = worded SEMICOLON x.inside d in
@@ -97,11 +100,11 @@ statement-returns t c =
 pub statements-returns-then-not-starts : goal.statements-returns-then-not-starts
 statements-returns-then-not-starts t c = (
   c.loop-t.invariant.1 _ _ _ (statements-none c.loop-t.invariant.0.inside),
-  record { none = λ z. ap (λ (u : Look). starter u.kind) (sym c.peek-t.ensures) ∙ sym c.starts.ensures ∙ not-true _ c.if-not-starts.true-raw },
+  record { none = λ z. ap (λ (u : Look). starter (kind_seen u)) (sym c.peek-t.ensures) ∙ sym c.starts.ensures ∙ c.if-not-starts.true },
 )
 
 pub statements-statement-requires : goal.statements-statement-requires
-statements-statement-requires t c = (omega (arith, c.decreases), (c.loop-t.invariant.0, c.peek-t.ensures, sym c.starts.ensures ∙ not-false _ c.if-not-starts.false-raw))
+statements-statement-requires t c = (omega (arith, c.decreases), (c.loop-t.invariant.0, c.peek-t.ensures, sym c.starts.ensures ∙ c.if-not-starts.false))
 
 pub statements-returns-in_err-p : goal.statements-returns-in_err-p
 statements-returns-in_err-p t c =
