@@ -1,4 +1,6 @@
 // Where reading stands in a text, and a word or mark read there.
+// Kept: a text, its ledger and its table are three parameters of the readers, no plainer as one struct: each reader would promise besides that
+// its two borrowed fields are still the same ones, how long the ledger is, and that the text stays.
 #![tactic(auto)]
 
 ghost use Rattle.std.specs.Prelude.{◌≡◌, ◌≤◌, length};
