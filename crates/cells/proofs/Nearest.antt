@@ -24,7 +24,8 @@ use Rattle.cells.specs.Inside.Moves.{Nearer, Seen}
 use Rattle.cells.specs.declared.Coming.{Coming}
 use Rattle.cells.proofs.Waiting.{due-later, later_first, later_all}
 use Rattle.cells.proofs.Columns.{length-pendings, pending_at, pending-past}
-use Rattle.cells.proofs.Words.{bit-or, bit_same, bit_other, bit-above, one_below, walking_first, walking_next}
+use Rattle.cells.proofs.Words.{bit-or, bit_same, bit_other, bit-above, one_below}
+use Rattle.cells.proofs.Walks.{walk_first, walk_next}
 
 -- WHAT IS DUE
 
@@ -45,8 +46,8 @@ module _ (word t : ℕ) (p : Pending) (d : Due word t p) where
 
   pub due_some : length p ≤ 64 → 0 < word → due t p ≡ true
   due_some few some =
-      let s = walking_next word (length p) word 0 (walking_first word (length p) d.small) few some in
-      due_any t p (0 + count_trailing_zeros 64 word) (sym (d.tells (0 + count_trailing_zeros 64 word)) ∙ s.set)
+      let s = walk_next (walk_first word (length p) d.small) few (some, refl, refl) in
+      due_any t p (count_trailing_zeros 64 word) (sym (d.tells (count_trailing_zeros 64 word)) ∙ s.set)
 
 -- THE LEAST TIME
 

@@ -1,13 +1,11 @@
--- Words as sets of numbers: their bits, one after the other from the lowest. Assumes nothing.
-use Prim.Native.Nat.{ℕ, zero, suc, ◌+◌, ◌*◌, ◌-◌, ◌/◌, ◌%◌, ◌^◌, ◌<◌, ◌≤◌, max}
-use mathlib.Core.Path.{◌≡◌, refl, ap, sym, ◌∙◌}
+-- Words as sets of numbers, by their bits. Assumes nothing.
+use Prim.Native.Nat.{ℕ, zero, suc, ◌+◌, ◌*◌, ◌/◌, ◌%◌, ◌^◌, ◌<◌, ◌≤◌, max}
+use mathlib.Core.Path.{◌≡◌, refl, ap, ◌∙◌}
 use mathlib.Core.Bool.{true, false, ◌||◌}
-use native.Mathlib.Nat.{mod-eq_of_lt, div-div-eq-div-mul}
+use native.Mathlib.Nat.{mod-eq_of_lt}
 use native.Mathlib.Omega.{arith}
 use lib.Bits.{bit_or, or_step, shifted_half, shifted_even, bit_xor, xor_step}
-use lib.Count.{count_trailing_zeros}
 use lib.Pow.{pow-lt}
-use Rattle.laws.proofs.Cases.{by}
 use lib.Bits as bits
 use Rattle.rules.specs.Formulas.{differ}
 use Rattle.table.specs.Table.{bit}
@@ -76,112 +74,3 @@ unfolding bit
 bit-above zero w k l h = let e : w ≡ 0 = omega arith in rw e (bit-zero k)
 bit-above (suc n) w zero l h = absurd (omega arith)
 bit-above (suc n) w (suc k) l h = bit-above n (w / 2) k (let e : 2 * 2 ^ n ≡ 2 ^ suc n = omega arith in omega arith) (omega arith)
-
--- bits of shifted words
-half : (m z : ℕ) → m / 2 ^ suc z ≡ m / 2 / 2 ^ z
-half m z =
-    let e : 2 * 2 ^ z ≡ 2 ^ suc z = omega arith in
-    sym (div-div-eq-div-mul m 2 (2 ^ z) ∙ ap (λ (x : ℕ). m / x) e)
-
-bit_shift : (z m j : ℕ) → bit (m / 2 ^ z) j ≡ bit m (z + j)
-unfolding bit
-bit_shift zero m j =
-    let h : m / 2 ^ 0 ≡ m = omega arith in
-    let g : 0 + j ≡ j = omega arith in
-    rw (h, g)
-bit_shift (suc z) m j =
-    let g : suc z + j ≡ suc (z + j) = omega arith in
-    rw (half m z, g) (bit_shift z (m / 2) j)
-
-bit_next : (m j : ℕ) → bit (m / 2) j ≡ bit m (suc j)
-unfolding bit
-bit_next m j = refl
-
--- THE LOWEST BIT
-
-record Lowest (c m z : ℕ) : Type 0 where
-  inside : z < c
-  set : bit m z ≡ true
-  unset : (j : ℕ) → j < z → bit m j ≡ false
-  less : m / 2 ^ z / 2 < 2 ^ (c - suc z)
-
-lowest-here : (c m : ℕ) → m % 2 ≡ 1 → m < 2 ^ suc c → Lowest (suc c) m 0
-unfolding bit
-lowest-here c m e l =
-    let h : m / 2 ^ 0 ≡ m = omega arith in
-    let g : suc c - 1 ≡ c = omega arith in
-    let q : 2 * 2 ^ c ≡ 2 ^ suc c = omega arith in
-    record { inside = omega arith; set = rw e; unset = λ j l. absurd (omega arith); less = rw (h, g) (omega arith) }
-
-low-unset : (m z : ℕ) → m % 2 ≡ 0 → ((j : ℕ) → j < z → bit (m / 2) j ≡ false) → (j : ℕ) → j < suc z → bit m j ≡ false
-unfolding bit
-low-unset m z e h zero l = rw e
-low-unset m z e h (suc j) l = h j (omega arith)
-
-lowest-up : (c m z : ℕ) → m % 2 ≡ 0 → Lowest c (m / 2) z → Lowest (suc c) m (suc z)
-lowest-up c m z e l =
-    let g : suc c - suc (suc z) ≡ c - suc z = omega arith in
-    record {
-      inside = omega (arith, l.inside);
-      set = sym (bit_next m z) ∙ l.set;
-      unset = low-unset m z e l.unset;
-      less = rw (half m z, g) l.less;
-    }
-
-lowest : (c k m : ℕ) → c ≤ k → 0 < m → m < 2 ^ c → Lowest c m (count_trailing_zeros k m)
-unfolding count_trailing_zeros
-lowest zero k m h g l = absurd (omega arith)
-lowest (suc c) zero m h g l = absurd (omega arith)
-lowest (suc c) (suc k) m h g l =
-    let q : 2 * 2 ^ c ≡ 2 ^ suc c = omega arith in
-    by (m % 2) 1
-    (λ e. rw e (lowest-here c m e l))
-    (λ ne.
-    let e : m % 2 ≡ 0 = omega arith in
-    rw e (lowest-up c m (count_trailing_zeros k (m / 2)) e (lowest c k (m / 2) (omega arith) (omega arith) (omega arith))))
-
--- A WALK OVER THE BITS OF A WORD: m has those from place k on
-
-pub record Walking (word limit m k : ℕ) : Type 0 where
-  pub low : k ≤ limit
-  pub small : m < 2 ^ (limit - k)
-  pub bits : (j : ℕ) → bit m j ≡ bit word (k + j)
-
-pub walking_first : (word limit : ℕ) → word < 2 ^ limit → Walking word limit word 0
-walking_first word limit l =
-    let e : limit - 0 ≡ limit = omega arith in
-    record { low = omega arith; small = rw e l; bits = λ j. ap (bit word) (omega arith) }
-
--- the next one: z places up, with none between
-pub record Stepping (word limit m k z : ℕ) : Type 0 where
-  pub inside : k + z < limit
-  pub set : bit word (k + z) ≡ true
-  pub unset : (j : ℕ) → j < z → bit word (k + j) ≡ false
-  pub next : Walking word limit (m / 2 ^ z / 2) (k + z + 1)
-
-module _ (word limit m k : ℕ) (w : Walking word limit m k) where
-  pub walking_last : m ≡ 0 → (j : ℕ) → k ≤ j → bit word j ≡ false
-  walking_last e j l =
-      let q : k + (j - k) ≡ j = omega arith in
-      sym (ap (bit word) q) ∙ sym (w.bits (j - k)) ∙ ap (λ x. bit x (j - k)) e ∙ bit-zero (j - k)
-
-  pub walking_next : limit ≤ 64 → 0 < m → Stepping word limit m k (count_trailing_zeros 64 m)
-  walking_next few some =
-      let z = count_trailing_zeros 64 m in
-      let l = lowest (limit - k) 64 m (omega arith) some w.small in
-      let q : limit - k - suc (count_trailing_zeros 64 m) ≡ limit - (k + count_trailing_zeros 64 m + 1) = omega arith in
-      record {
-        inside = omega (arith, l.inside, w.low);
-        set = sym (w.bits (count_trailing_zeros 64 m)) ∙ l.set;
-        unset = λ j h. sym (w.bits j) ∙ l.unset j h;
-        next =
-            record {
-              low = omega (arith, l.inside, w.low);
-              small = rw q at l.less;
-              bits = λ j.
-                  bit_next (m / 2 ^ count_trailing_zeros 64 m) j
-                  ∙ bit_shift (count_trailing_zeros 64 m) m (suc j)
-                  ∙ w.bits (count_trailing_zeros 64 m + suc j)
-                  ∙ ap (bit word) (omega arith);
-            };
-      }

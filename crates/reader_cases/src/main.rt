@@ -38,10 +38,8 @@ fn answer(rt: &impl Print, text: &[u8]) -> io::Result<()> {
 fn repeat(text: &mut [u8], from: usize, size: usize, end: usize)
     requires { (size ≤ from) × (end ≤ length text.old) }
 {
-    let mut i = from;
-    while i < end {
+    for i in from..end {
         text[i] = text[i - size];
-        i += 1;
     }
 }
 
@@ -74,25 +72,21 @@ fn next_text<R: Read>(rt: &impl Print, input: &mut R, text: &mut [u8]) -> io::Re
     if read_full(input, &mut line)? < 10 {
         return Ok(false);
     }
-    let mut pieces = number(&line[5..9]);
-    let mut end = 0;
-    while 0 < pieces {
-        end = piece(input, text, end)?;
-        pieces -= 1;
+    let mut filled = 0;
+    for _ in 0..number(&line[5..9]) {
+        filled = piece(input, text, filled)?;
     }
-    answer(rt, &text[..end])?;
+    answer(rt, &text[..filled])?;
     Ok(true)
 }
 
 fn main(rt: HostRuntime) -> io::Result<()> {
     let mut input = rt.stdin();
     let mut text = [0u8; 60001];
-    let mut turns: u64 = 100_000;
-    while 0 < turns {
+    for _ in 0..100_000 {
         if !next_text(&rt, &mut input, &mut text)? {
             return Ok(());
         }
-        turns -= 1;
     }
     Ok(())
 }

@@ -1,9 +1,0 @@
--- `reader_cases::repeat`: the place is at or behind the first one.
-use Rattle.std.proofs.Common.{◌-◌, ◌≤◌}
-use Rattle.reader_cases.proofs.repeat.Given as goal
-
-abbrev pub invariant-loop-i : goal.invariant-loop-i
-invariant-loop-i l = l.from ≤ l.i
-
-abbrev pub decreases-loop-i : goal.decreases-loop-i
-decreases-loop-i l = l.end - l.i
