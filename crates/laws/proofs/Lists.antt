@@ -1,6 +1,6 @@
--- A list from place i on, while a loop walks it; a list that a loop copies; when two lists of numbers are the same; and lists of zeros.
+-- A list from place i on, while a loop walks it; a list put into another; when two lists of numbers are the same; and lists of zeros.
 -- Assumes nothing.
-use mathlib.Core.Path.{◌≡◌, refl, sym, ap, ◌∙◌}
+use mathlib.Core.Path.{◌≡◌, refl, ap, ◌∙◌}
 use mathlib.Core.Bool.{Bool, true, false}
 use mathlib.Core.List.{List, [], ◌∷◌, ◌++◌, map}
 use Prim.Native.Nat.{ℕ, zero, suc, ◌+◌, ◌-◌, ◌<◌}
@@ -9,8 +9,8 @@ use native.Mathlib.Nat.{le_refl}
 use native.Mathlib.Omega.{arith}
 use borrow.Author.Tests.{eqb-true, eq-eqb}
 use lib.Dec.{eqb}
-use lib.ListN.{length, drop, take, get_or, set, replicate, length-drop, length-take}
-use lib.Seq.{drop-cons, take_all, take-suc, sets}
+use lib.ListN.{length, drop, take, get_or, set, replicate, length-drop}
+use lib.Seq.{drop-cons, take_all, sets}
 use Rattle.laws.specs.Pick.{pick, same_list}
 
 pub uncons : {A : Type 0} (s : List A) (i : ℕ) (d : A) → i < length s → drop i s ≡ get_or s i d ∷ drop (i + 1) s
@@ -44,12 +44,6 @@ at_map f (c ∷ l) (suc k) b a h = at_map f l k b a (omega arith)
 pub sets-append : (l : List ℕ) (i : ℕ) (xs ys : List ℕ) → sets l i (xs ++ ys) ≡ sets (sets l i xs) (i + length xs) ys
 sets-append l i [] ys = ap (λ j. sets l j ys) (omega arith)
 sets-append l i (x ∷ xs) ys = sets-append (set l i x) (suc i) xs ys ∙ ap (λ j. sets (sets (set l i x) (suc i) xs) j ys) (omega arith)
-
-pub copied_more : (out : List ℕ) (at i : ℕ) (text mid : List ℕ) → i < length text → mid ≡ sets out at (take i text)
-    → set mid (at + i) (get_or text i 0) ≡ sets out at (take (suc i) text)
-copied_more out at i text mid l e =
-    rw (take-suc text i 0 l, sets-append out at (take i text) (get_or text i 0 ∷ []), ← e)
-    (ap (λ j. set mid (at + j) (get_or text i 0)) (sym (length-take i text ∙ omega arith)))
 
 pub zero_at : (n i : ℕ) → ◌≡◌ {A = ℕ} (get_or (replicate n 0) i 0) 0
 zero_at zero i = refl

@@ -1,33 +1,21 @@
 -- The lines of signals, one behind the other. Assumes nothing.
-use Prim.Native.Nat.{ℕ, zero, suc, ◌+◌, ◌*◌, ◌≤◌}
-use mathlib.Core.Path.{◌≡◌, refl, ap, ◌∙◌}
+use Prim.Native.Nat.{ℕ, suc, ◌+◌, ◌*◌}
+use mathlib.Core.Path.{◌≡◌, ap, ◌∙◌}
 use mathlib.Core.List.{List, [], ◌∷◌, ◌++◌}
 use mathlib.Core.Bool.{Bool}
 use native.Mathlib.Numerals.{add-one}
 use native.Mathlib.Omega.{arith}
-use lib.ListN.{length, set}
+use lib.ListN.{length}
 use Rattle.rules.specs.Formulas.{Values}
-use Rattle.rules.specs.Dump.{digit, shown, all}
+use Rattle.rules.specs.Dump.{shown, all}
 use Rattle.table.specs.Table.{tabulate}
 use Rattle.table.proofs.Tabulated.{length-tabulate}
 use Rattle.table.proofs.Written.{all_length}
-use Rattle.cells.specs.Cells.{truth, value_of, values}
+use Rattle.cells.specs.Cells.{value_of, values}
 use Rattle.cells.proofs.Tabulating.{tabulate_more}
 use Rattle.cells.proofs.Columns.{length-values}
 use Rattle.writing.specs.Inside.Written.{Writes}
 use Rattle.writing.proofs.Buffers.{writes_both, writes-none}
-
-digit_of_lem : (v : ℕ) → v ≤ 1 → 48 + v ≡ digit (truth v)
-digit_of_lem zero l = refl
-digit_of_lem (suc zero) l = refl
-digit_of_lem (suc (suc v)) l = absurd (omega arith)
-
-pub writes_line : (out : List ℕ) (at k v : ℕ) → v ≤ 1
-    → Writes out at (shown k (truth v)) (at + 3) (set (set (set out at (48 + v)) (at + 1) (33 + k)) (at + 2) 10)
-writes_line out at k v l =
-    let b : at + 1 ≡ suc at = omega arith in
-    let c : at + 2 ≡ suc (suc at) = omega arith in
-    record { bytes = rw (b, c, digit_of_lem v l); end = refl }
 
 all_append : (i : ℕ) (vs : Values) (v : Bool) → all i (vs ++ (v ∷ [])) ≡ all i vs ++ shown (i + length vs) v
 unfolding all
