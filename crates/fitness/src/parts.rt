@@ -13,6 +13,7 @@ pub fn within(words: &[u64], from: usize, upto: usize, top: u64) -> bool
 }
 
 // Whether the words from one place up to another are zero. With no way out of the loop it runs on wide registers.
+// Kept: beside `within`, which decides the same with a top of 0: tried in its place, a call on lent words took two to three times as long.
 pub fn zeros(words: &[u64], from: usize, upto: usize) -> bool
     requires from_le_upto { from ≤ upto }
     requires upto_in_bounds { upto ≤ length words.now }
