@@ -2,9 +2,11 @@
 #![tactic(auto)]
 
 ghost use Rattle.std.specs.Prelude.{◌≡◌, ◌≤◌, length, set};
+ghost use Rattle.kind.specs.Numbers as kinds;
 ghost use Rattle.look.specs.Inside.Tokens.{number_of};
 ghost use Rattle.emission.specs.Inside.Draft.{placed, following, jump_word, aimed, bit_of, with_bit, waking, ended, begun, cleared, binary_kind};
 
+use kind::Kind;
 use look::token::Token;
 
 fn write(table: &mut [u64], at: usize, word: u64)
@@ -28,23 +30,20 @@ pub fn emit(table: &mut [u64], n: usize, operation: u64, delay: u64) -> usize
     }
 }
 
-// The operation of a test (10) or a skip (11).
-// Kept: what may not change, `aim`, which answers for every kind up to 11; an enum of these two would ask more of its callers.
-fn jump(kind: u64, target: usize) -> u64
-    requires { kind ≤ 11 }
-    ensures { result ≡ jump_word kind target }
+// The operation of a test or a skip.
+fn jump(kind: Kind, target: usize) -> u64
+    ensures { result ≡ jump_word (kinds.number_of kind) target }
 {
     if 4096 < target {
         0
     } else {
-        kind + (16 * target) as u64
+        kind.number() + (16 * target) as u64
     }
 }
 
 // A jump is written when its target is known.
-pub fn aim(table: &mut [u64], n: usize, kind: u64, target: usize)
-    requires { kind ≤ 11 }
-    ensures { table.new ≡ aimed table.old n kind target }
+pub fn aim(table: &mut [u64], n: usize, kind: Kind, target: usize)
+    ensures { table.new ≡ aimed table.old n (kinds.number_of kind) target }
 {
     if n < 4096 {
         write(table, 195 + n, jump(kind, target));

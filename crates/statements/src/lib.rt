@@ -12,6 +12,7 @@ ghost use Rattle.statements.specs.Inside.Ending.{ending_reached, ending_delay, E
 
 use emission::{aim, emit};
 use expressions::expression;
+use kind::Kind;
 use ledger::{assign, count};
 use look::token::Token;
 use look::{Look, peek};
@@ -146,8 +147,8 @@ fn conditional(
         next: second,
     };
     let q = finish(text, ledger, table, between, room - 1)?;
-    aim(table, a.next, 10, second);
-    aim(table, b.next, 11, q.next);
+    aim(table, a.next, Kind::Test, second);
+    aim(table, b.next, Kind::Skip, q.next);
     Ok(q)
 }
 

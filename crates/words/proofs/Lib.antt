@@ -5,4 +5,3 @@ pub mod Same
 pub mod Distinct
 pub mod Integers
 pub mod Units
-pub mod Times

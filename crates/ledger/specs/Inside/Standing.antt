@@ -9,6 +9,7 @@ use Rattle.words.specs.declared.unit.TimeUnit.{TimeUnit}
 use Rattle.words.specs.Token.{Name}
 use Rattle.words.specs.Unit.{femtoseconds_of, longest}
 use Rattle.look.specs.declared.Look.{Look}
+use Rattle.look.specs.declared.token.Token.TheVariants.{Name as a_name}
 use Rattle.look.specs.Inside.Looks.{name_at}
 use Rattle.names.specs.Roles.{Role}
 use Rattle.names.specs.Judge.{State, Judgement, fine, refused, onward, judge, is_among, number_of, has, assigned}
@@ -125,6 +126,14 @@ pub record Lasts (ledger : List ℕ) (amount : ℕ) (unit : TimeUnit) (r : ℕ) 
 two_names : names_from (bytes "signal Q, d") (7 ∷ 8 ∷ 10 ∷ 11 ∷ []) 0 2 ≡ bytes "q" ∷ bytes "d" ∷ []
 unfolding names_from name_at
 two_names = refl
+
+-- a process with the label `P`, and one without
+a_label : name_if_any (bytes "P : process") (std.Some (record { token = a_name; start = 0; end = 1 })) ≡ some (bytes "p")
+unfolding name_at
+a_label = refl
+
+no_label : name_if_any (bytes "P : process") std.None ≡ none
+no_label = refl
 
 -- behind two names, a third from 7 to 8
 one_more : added (2 ∷ 5 ∷ 0 ∷ 0 ∷ 0 ∷ 0 ∷ 0 ∷ []) 0 1 7 8 ≡ 3 ∷ 5 ∷ 0 ∷ 0 ∷ 0 ∷ 7 ∷ 8 ∷ []
