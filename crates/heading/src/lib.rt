@@ -18,6 +18,7 @@ use refusal::{Reason, Refusal};
 use writing::copy;
 
 // A name, in lower case.
+// Kept: a buffer and a place in these functions too, for the reason that `writing::copy` has.
 fn copy_name(out: &mut [u8], at: usize, name: &[u8]) -> usize
     requires { at + length name.now ≤ length out.old }
     ensures { Writes out.old at (lower name.now) result out.new }
