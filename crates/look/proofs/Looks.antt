@@ -21,9 +21,7 @@ use Rattle.lexis.proofs.Scans.{tokens_at, tokens-token, tokens_end, made-refused
 use Rattle.look.specs.declared.Look.{Look}
 use Rattle.look.specs.Inside.Looks.{part, seen_in, kind_of, look_from, look_of, token_of_kind, kind_seen, token_of_look}
 use Rattle.look.specs.Inside.Tokens.{number_of}
-use Rattle.look.proofs.Numbers.{least_kind}
-use Rattle.look.proofs.Tokens.{row-number, least-token}
-use Rattle.laws.proofs.Ranges.{Ranged, ranged, below, inside, above}
+use Rattle.look.proofs.Tokens.{row-number}
 
 -- THE TOKEN OF A NUMBER is the scan's
 
@@ -62,19 +60,11 @@ unfolding word_token
 word-token run = row-token run (row_of run) (row_below run)
 
 word-number : (run : List ℕ) (row : Option ℕ) → Below 108 row → token_of_kind run (unwrap_or row 108) ≡ token_of_kind run (number_of (seen_in row))
-word-number run (Some row) h = sym (least-token run row) ∙ ap (token_of_kind run) (sym (row-number row h))
+word-number run (Some row) h = ap (token_of_kind run) (sym (row-number row h))
 word-number run None h = refl
 
-least-below : (k : ℕ) → k < 108 → least_kind k < 108
-least-below k h = go (ranged 32 107 k)
-  where
-    go : Ranged 32 107 k → least_kind k < 108
-    go (below t g) = rw t h
-    go (inside t g o) = rw t (omega arith)
-    go (above t g) = rw t h
-
 word-below : (row : Option ℕ) → Below 108 row → number_of (seen_in row) < 117
-word-below (Some row) h = rw (row-number row h) (omega (arith, least-below row h))
+word-below (Some row) h = rw (row-number row h) (omega arith)
 word-below None h = omega arith
 
 kind-token : (k : Kind) (run : List ℕ) → token_of k run ≡ token_of_kind run (number_of (kind_of k run))

@@ -6,25 +6,23 @@ use denote.Enum.Bare.{sameb, same_true, same_false, differs_true, differs_false}
 use mathlib.Core.List.{List, [], ◌∷◌, ◌++◌}
 use Prim.Native.Nat.{ℕ, suc, ◌<◌, ◌≤◌}
 use native.Mathlib.Omega.{arith}
-use native.Mathlib.Decide.{dec_lt}
-use lib.ListN.{get_or, replicate}
-use Rattle.words.specs.Token.{foreign, unit}
+use lib.ListN.{get_or}
+use Rattle.words.specs.Token.{unit}
 use Rattle.words.specs.declared.unit.TimeUnit.{TimeUnit}
 use Rattle.std.specs.Prelude.{Some, None}
 use Rattle.look.specs.declared.token.Token.{Token}
 use Rattle.look.specs.contracts.token.Token.{the_type}
-use Rattle.look.specs.declared.token.Token.TheVariants.{Entity, Is, End, Architecture, Of, Signal, Begin, Boolean, Process, Transport, After, If, Then, Else, Null, Not, Nand, Nor, And, Or, Xor, Xnor, True, False, Fs, Ps, Ns, Us, Ms, Sec, Min, Hr, Reserved, Name, Integer, Open, Close, Comma, Colon, Semicolon, Arrow, Becomes, Finish}
-use Rattle.std.proofs.lemmas.List.{get_or_past}
+use Rattle.look.specs.declared.token.Token.TheVariants.{Entity, Is, End, Architecture, Of, Signal, Begin, Boolean, Process, Transport, After, If, Then, Else, Null, Not, Nand, Nor, And, Or, Xor, Xnor, True, False, Fs, Ps, Ns, Us, Ms, Sec, Min, Hr, Abs, Access, Alias, All, Array, Assert, Attribute, Block, Body, Buffer, Bus, Case, Component, Configuration, Constant, Disconnect, Downto, Elsif, Exit, File, For, Function, Generate, Generic, Group, Guarded, Impure, In, Inertial, Inout, Label, Library, Linkage, Literal, Loop, Map, Mod, New, Next, On, OpenWord, Others, Out, Package, Port, Postponed, Procedure, Pure, Range, Record, Register, Reject, Rem, Report, Return, Rol, Ror, Select, Severity, Shared, Sla, Sll, Sra, Srl, Subtype, To, TypeWord, Unaffected, Units, Until, Use, Variable, Wait, When, While, With, Name, Integer, Open, Close, Comma, Colon, Semicolon, Arrow, Becomes, Finish}
 use Rattle.laws.specs.Pick.{pick, within}
-use Rattle.laws.proofs.Ranges.{Ranged, ranged, below, inside, above, within-inside}
+use Rattle.laws.proofs.Ranges.{Ranged, ranged, below, inside, above}
 use Rattle.look.specs.Inside.Tokens.{words_in_rows, token_in_row, number_of, unit_of, unit_seen}
 use Rattle.look.specs.Inside.Looks.{token_of_kind}
-use Rattle.look.proofs.Numbers.{least_kind, in_range, unit-token}
+use Rattle.look.proofs.Numbers.{in_range, unit-token}
 
 -- the tokens by their numbers
 abbrev by_number : ℕ → Token
 by_number number =
-    get_or (words_in_rows ++ Reserved ∷ replicate 75 Reserved ++ Name ∷ Integer ∷ Open ∷ Close ∷ Comma ∷ Colon ∷ Semicolon ∷ Arrow ∷ Becomes ∷ Finish ∷ []) number Reserved
+    get_or (words_in_rows ++ Name ∷ Integer ∷ Open ∷ Close ∷ Comma ∷ Colon ∷ Semicolon ∷ Arrow ∷ Becomes ∷ Finish ∷ []) number Finish
 
 at_its_number : (token : Token) → by_number (number_of token) ≡ token
 at_its_number Entity = refl
@@ -59,7 +57,82 @@ at_its_number Ms = refl
 at_its_number Sec = refl
 at_its_number Min = refl
 at_its_number Hr = refl
-at_its_number Reserved = refl
+at_its_number Abs = refl
+at_its_number Access = refl
+at_its_number Alias = refl
+at_its_number All = refl
+at_its_number Array = refl
+at_its_number Assert = refl
+at_its_number Attribute = refl
+at_its_number Block = refl
+at_its_number Body = refl
+at_its_number Buffer = refl
+at_its_number Bus = refl
+at_its_number Case = refl
+at_its_number Component = refl
+at_its_number Configuration = refl
+at_its_number Constant = refl
+at_its_number Disconnect = refl
+at_its_number Downto = refl
+at_its_number Elsif = refl
+at_its_number Exit = refl
+at_its_number File = refl
+at_its_number For = refl
+at_its_number Function = refl
+at_its_number Generate = refl
+at_its_number Generic = refl
+at_its_number Group = refl
+at_its_number Guarded = refl
+at_its_number Impure = refl
+at_its_number In = refl
+at_its_number Inertial = refl
+at_its_number Inout = refl
+at_its_number Label = refl
+at_its_number Library = refl
+at_its_number Linkage = refl
+at_its_number Literal = refl
+at_its_number Loop = refl
+at_its_number Map = refl
+at_its_number Mod = refl
+at_its_number New = refl
+at_its_number Next = refl
+at_its_number On = refl
+at_its_number OpenWord = refl
+at_its_number Others = refl
+at_its_number Out = refl
+at_its_number Package = refl
+at_its_number Port = refl
+at_its_number Postponed = refl
+at_its_number Procedure = refl
+at_its_number Pure = refl
+at_its_number Range = refl
+at_its_number Record = refl
+at_its_number Register = refl
+at_its_number Reject = refl
+at_its_number Rem = refl
+at_its_number Report = refl
+at_its_number Return = refl
+at_its_number Rol = refl
+at_its_number Ror = refl
+at_its_number Select = refl
+at_its_number Severity = refl
+at_its_number Shared = refl
+at_its_number Sla = refl
+at_its_number Sll = refl
+at_its_number Sra = refl
+at_its_number Srl = refl
+at_its_number Subtype = refl
+at_its_number To = refl
+at_its_number TypeWord = refl
+at_its_number Unaffected = refl
+at_its_number Units = refl
+at_its_number Until = refl
+at_its_number Use = refl
+at_its_number Variable = refl
+at_its_number Wait = refl
+at_its_number When = refl
+at_its_number While = refl
+at_its_number With = refl
 at_its_number Name = refl
 at_its_number Integer = refl
 at_its_number Open = refl
@@ -74,27 +147,13 @@ at_its_number Finish = refl
 pub one_token : (a b : Token) → number_of a ≡ number_of b → a ≡ b
 one_token a b e = sym (at_its_number a) ∙ ap by_number e ∙ at_its_number b
 
--- the token in a row has the row's number, or that of the words that fit nowhere
-pub row-number : (row : ℕ) → row < 108 → number_of (token_in_row row) ≡ least_kind row
+-- the token in a row has the row's number
+pub row-number : (row : ℕ) → row < 108 → number_of (token_in_row row) ≡ row
 unfolding token_in_row
 row-number row h =
-    elim (dec_lt row 32) [
-      | yes l ↦ in_range (λ (n : ℕ). number_of (token_in_row n) ≡ least_kind n) 0 32 (refl, (refl, (refl, (refl, (refl, (refl, (refl, (refl, (refl, (refl, (refl, (refl, (refl, (refl, (refl, (refl, (refl, (refl, (refl, (refl, (refl, (refl, (refl, (refl, (refl, (refl, (refl, (refl, (refl, (refl, (refl, (refl, tt)))))))))))))))))))))))))))))))) row (omega arith) l
-      | no l ↦ let g : 32 ≤ row = omega arith in rw (get_or_past words_in_rows row Reserved g, within-inside 32 107 row g (omega arith))
-    ]
-
--- a word that fits nowhere is the same token under each of their numbers
-pub least-token : (run : List ℕ) (k : ℕ) → token_of_kind run (least_kind k) ≡ token_of_kind run k
-unfolding token_of_kind
-least-token run k = go (ranged 32 107 k)
-  where
-    foreign_at : (n : ℕ) → 32 ≤ n → n < 108 → token_of_kind run n ≡ foreign
-    foreign_at = in_range (λ (n : ℕ). token_of_kind run n ≡ foreign) 32 76 (refl, (refl, (refl, (refl, (refl, (refl, (refl, (refl, (refl, (refl, (refl, (refl, (refl, (refl, (refl, (refl, (refl, (refl, (refl, (refl, (refl, (refl, (refl, (refl, (refl, (refl, (refl, (refl, (refl, (refl, (refl, (refl, (refl, (refl, (refl, (refl, (refl, (refl, (refl, (refl, (refl, (refl, (refl, (refl, (refl, (refl, (refl, (refl, (refl, (refl, (refl, (refl, (refl, (refl, (refl, (refl, (refl, (refl, (refl, (refl, (refl, (refl, (refl, (refl, (refl, (refl, (refl, (refl, (refl, (refl, (refl, (refl, (refl, (refl, (refl, (refl, tt))))))))))))))))))))))))))))))))))))))))))))))))))))))))))))))))))))))))))))
-
-    go : Ranged 32 107 k → token_of_kind run (least_kind k) ≡ token_of_kind run k
-    go (below t h) = rw t
-    go (inside t h g) = rw t (sym (foreign_at k h (omega arith)))
-    go (above t h) = rw t
+    in_range (λ (n : ℕ). number_of (token_in_row n) ≡ n) 0 108
+    (refl, (refl, (refl, (refl, (refl, (refl, (refl, (refl, (refl, (refl, (refl, (refl, (refl, (refl, (refl, (refl, (refl, (refl, (refl, (refl, (refl, (refl, (refl, (refl, (refl, (refl, (refl, (refl, (refl, (refl, (refl, (refl, (refl, (refl, (refl, (refl, (refl, (refl, (refl, (refl, (refl, (refl, (refl, (refl, (refl, (refl, (refl, (refl, (refl, (refl, (refl, (refl, (refl, (refl, (refl, (refl, (refl, (refl, (refl, (refl, (refl, (refl, (refl, (refl, (refl, (refl, (refl, (refl, (refl, (refl, (refl, (refl, (refl, (refl, (refl, (refl, (refl, (refl, (refl, (refl, (refl, (refl, (refl, (refl, (refl, (refl, (refl, (refl, (refl, (refl, (refl, (refl, (refl, (refl, (refl, (refl, (refl, (refl, (refl, (refl, (refl, (refl, (refl, (refl, (refl, (refl, (refl, (refl, tt))))))))))))))))))))))))))))))))))))))))))))))))))))))))))))))))))))))))))))))))))))))))))))))))))))))))))))
+    row (omega arith) h
 
 -- what a test of two tokens says of their numbers: where it finds one token, and where it finds two
 module _ (a b : Token) where

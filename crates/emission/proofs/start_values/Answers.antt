@@ -32,5 +32,5 @@ pub returns : goal.returns
 returns c =
     let a = c.args in
     let g : c.loop-k.k - a.from ≡ a.to - a.from = omega arith in
-    let e : number_of a.word ≡ 22 = ne-same _ True c.if-ne.ensures in
+    let e : number_of a.word ≡ 22 = ne-same a.word True c.if-ne.ensures in
     rw (e, le-ltb 64 a.to c.if-to-gt64.false, ← g) c.loop-k.invariant.1

@@ -28,41 +28,41 @@ pub factor-primary-requires : goal.factor-primary-requires
 factor-primary-requires t c = (omega (arith, c.decreases), c.requires)
 
 pub chain-returns-then-ne : goal.chain-returns-then-ne
-chain-returns-then-ne t c = c.loop-joint.invariant.1 _ _ _ (chain-none c.loop-joint.invariant.0.inside refl c.peek-t.ensures c.requires.1 c.requires.2 (ne-other _ _ c.if-ne.ensures))
+chain-returns-then-ne t c = c.loop-joint.invariant.1 _ _ _ (chain-none c.loop-joint.invariant.0.inside refl c.peek-t.ensures c.requires.1 c.requires.2 (ne-other c.peek-t.result.token c.args.joint c.if-ne.ensures))
 
 pub chain-factor-requires : goal.chain-factor-requires
-chain-factor-requires t c = (omega (arith, c.decreases), rw c.past.ensures (ready-token c.loop-joint.invariant.0 refl c.peek-t.ensures (λ z. omega (arith, (ne-same _ _ c.if-ne.ensures), c.requires.2, z)) (c.count.ensures c.args.text.now)))
+chain-factor-requires t c = (omega (arith, c.decreases), rw c.past.ensures (ready-token c.loop-joint.invariant.0 refl c.peek-t.ensures (λ z. omega (arith, (ne-same c.peek-t.result.token c.args.joint c.if-ne.ensures), c.requires.2, z)) (c.count.ensures c.args.text.now)))
 
 pub chain-returns-in_err-q : goal.chain-returns-in_err-q
 chain-returns-in_err-q t c =
     let d = rw c.past.ensures at c.in_err-q.ensures in
-    reads-ends c.from_residual.result _ c.from_residual.ensures.1 (c.loop-joint.invariant.1 _ _ _ (chain_more c.loop-joint.invariant.0.inside refl c.peek-t.ensures c.requires.1 c.requires.2 (ne-same _ _ c.if-ne.ensures) (c.count.ensures c.args.text.now) d refl refl refl (reads-stays _ d.inside (numbered c.in_err-q.field-0.0))))
+    reads-ends c.from_residual.result _ c.from_residual.ensures.1 (c.loop-joint.invariant.1 _ _ _ (chain_more c.loop-joint.invariant.0.inside refl c.peek-t.ensures c.requires.1 c.requires.2 (ne-same c.peek-t.result.token c.args.joint c.if-ne.ensures) (c.count.ensures c.args.text.now) d refl refl refl (reads-stays _ d.inside (numbered c.in_err-q.field-0.0))))
 
 pub chain-loop-joint-smaller : goal.chain-loop-joint-smaller
 chain-loop-joint-smaller t c =
-    let x = seen-there c.loop-joint.invariant.0.inside c.peek-t.ensures (λ z. omega (arith, (ne-same _ _ c.if-ne.ensures), c.requires.2, z)) in
+    let x = seen-there c.loop-joint.invariant.0.inside c.peek-t.ensures (λ z. omega (arith, (ne-same c.peek-t.result.token c.args.joint c.if-ne.ensures), c.requires.2, z)) in
     let d = rw c.past.ensures at c.in_ok-q.ensures in
     omega (arith, x.after, x.some, d.ahead, d.inside)
 
 pub chain-loop-joint-preserved : goal.chain-loop-joint-preserved
 chain-loop-joint-preserved t c =
     let d = rw c.past.ensures at c.in_ok-q.ensures in (
-      ready_at (ready-reads (ready-token c.loop-joint.invariant.0 refl c.peek-t.ensures (λ z. omega (arith, (ne-same _ _ c.if-ne.ensures), c.requires.2, z)) (c.count.ensures c.args.text.now)) d),
-      λ q l v o. c.loop-joint.invariant.1 q l v (chain_more c.loop-joint.invariant.0.inside refl c.peek-t.ensures c.requires.1 c.requires.2 (ne-same _ _ c.if-ne.ensures) (c.count.ensures c.args.text.now) d c.emit-next.ensures.0 c.binary.ensures c.emit-next.ensures.1 o),
+      ready_at (ready-reads (ready-token c.loop-joint.invariant.0 refl c.peek-t.ensures (λ z. omega (arith, (ne-same c.peek-t.result.token c.args.joint c.if-ne.ensures), c.requires.2, z)) (c.count.ensures c.args.text.now)) d),
+      λ q l v o. c.loop-joint.invariant.1 q l v (chain_more c.loop-joint.invariant.0.inside refl c.peek-t.ensures c.requires.1 c.requires.2 (ne-same c.peek-t.result.token c.args.joint c.if-ne.ensures) (c.count.ensures c.args.text.now) d c.emit-next.ensures.0 c.binary.ensures c.emit-next.ensures.1 o),
       search rules,
     )
 
 pub factor-returns-then-ne : goal.factor-returns-then-ne
-factor-returns-then-ne t c = factor-plain c.requires.inside refl c.peek-t.ensures (ne-other _ Not c.if-ne.ensures) c.primary.ensures
+factor-returns-then-ne t c = factor-plain c.requires.inside refl c.peek-t.ensures (ne-other c.peek-t.result.token Not c.if-ne.ensures) c.primary.ensures
 
 pub factor-primary-requires-2 : goal.factor-primary-requires-2
-factor-primary-requires-2 t c = (omega (arith, c.decreases), rw c.past.ensures (ready-token c.requires refl c.peek-t.ensures (λ z. omega (arith, (ne-same _ Not c.if-ne.ensures), z)) (c.count.ensures c.args.text.now)))
+factor-primary-requires-2 t c = (omega (arith, c.decreases), rw c.past.ensures (ready-token c.requires refl c.peek-t.ensures (λ z. omega (arith, (ne-same c.peek-t.result.token Not c.if-ne.ensures), z)) (c.count.ensures c.args.text.now)))
 
 pub factor-returns-in_err-q : goal.factor-returns-in_err-q
-factor-returns-in_err-q t c = reads-ends c.from_residual.result _ c.from_residual.ensures.1 (factor-not c.requires.inside refl c.peek-t.ensures (ne-same _ Not c.if-ne.ensures) (c.count.ensures c.args.text.now) (rw c.past.ensures at c.in_err-q.ensures) refl refl)
+factor-returns-in_err-q t c = reads-ends c.from_residual.result _ c.from_residual.ensures.1 (factor-not c.requires.inside refl c.peek-t.ensures (ne-same c.peek-t.result.token Not c.if-ne.ensures) (c.count.ensures c.args.text.now) (rw c.past.ensures at c.in_err-q.ensures) refl refl)
 
 pub factor-returns : goal.factor-returns
-factor-returns t c = factor-not c.requires.inside refl c.peek-t.ensures (ne-same _ Not c.if-ne.ensures) (c.count.ensures c.args.text.now) (rw c.past.ensures at c.in_ok-q.ensures) c.emit-next.ensures.0 c.emit-next.ensures.1
+factor-returns t c = factor-not c.requires.inside refl c.peek-t.ensures (ne-same c.peek-t.result.token Not c.if-ne.ensures) (c.count.ensures c.args.text.now) (rw c.past.ensures at c.in_ok-q.ensures) c.emit-next.ensures.0 c.emit-next.ensures.1
 
 pub primary-returns-then-room-eq0 : goal.primary-returns-then-room-eq0
 primary-returns-then-room-eq0 t c = primary-deep c.requires.inside refl c.peek-t.ensures _ (ap number_of c.in-Open.is) c.if-room-eq0.true

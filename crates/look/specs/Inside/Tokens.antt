@@ -5,19 +5,24 @@ use Rattle.laws.specs.Pick.{pick, within}
 use Rattle.words.specs.declared.unit.TimeUnit.{TimeUnit}
 use Rattle.words.specs.declared.unit.TimeUnit.TheVariants as units
 use Rattle.look.specs.declared.token.Token.{Token}
-use Rattle.look.specs.declared.token.Token.TheVariants.{Entity, Is, End, Architecture, Of, Signal, Begin, Boolean, Process, Transport, After, If, Then, Else, Null, Not, Nand, Nor, And, Or, Xor, Xnor, True, False, Fs, Ps, Ns, Us, Ms, Sec, Min, Hr, Reserved, Name, Integer, Open, Close, Comma, Colon, Semicolon, Arrow, Becomes, Finish}
+use Rattle.look.specs.declared.token.Token.TheVariants.{Entity, Is, End, Architecture, Of, Signal, Begin, Boolean, Process, Transport, After, If, Then, Else, Null, Not, Nand, Nor, And, Or, Xor, Xnor, True, False, Fs, Ps, Ns, Us, Ms, Sec, Min, Hr, Abs, Access, Alias, All, Array, Assert, Attribute, Block, Body, Buffer, Bus, Case, Component, Configuration, Constant, Disconnect, Downto, Elsif, Exit, File, For, Function, Generate, Generic, Group, Guarded, Impure, In, Inertial, Inout, Label, Library, Linkage, Literal, Loop, Map, Mod, New, Next, On, OpenWord, Others, Out, Package, Port, Postponed, Procedure, Pure, Range, Record, Register, Reject, Rem, Report, Return, Rol, Ror, Select, Severity, Shared, Sla, Sll, Sra, Srl, Subtype, To, TypeWord, Unaffected, Units, Until, Use, Variable, Wait, When, While, With, Name, Integer, Open, Close, Comma, Colon, Semicolon, Arrow, Becomes, Finish}
 
 abbrev pub words_in_rows : List Token
 words_in_rows =
-    Entity ∷ Is ∷ End ∷ Architecture ∷ Of ∷ Signal ∷ Begin ∷ Boolean ∷ Process ∷ Transport ∷ After ∷ If ∷
-    Then ∷ Else ∷ Null ∷ Not ∷ Nand ∷ Nor ∷ And ∷ Or ∷ Xor ∷ Xnor ∷
-    True ∷ False ∷ Fs ∷ Ps ∷ Ns ∷ Us ∷ Ms ∷ Sec ∷ Min ∷ Hr ∷ []
+    Entity ∷ Is ∷ End ∷ Architecture ∷ Of ∷ Signal ∷ Begin ∷ Boolean ∷ Process ∷ Transport ∷ After ∷ If ∷ Then ∷ Else ∷ Null ∷ Not ∷ Nand ∷
+    Nor ∷ And ∷ Or ∷ Xor ∷ Xnor ∷
+    True ∷ False ∷ Fs ∷ Ps ∷ Ns ∷ Us ∷ Ms ∷ Sec ∷ Min ∷ Hr ∷
+    Abs ∷ Access ∷ Alias ∷ All ∷ Array ∷ Assert ∷ Attribute ∷ Block ∷ Body ∷ Buffer ∷ Bus ∷ Case ∷ Component ∷ Configuration ∷ Constant ∷
+    Disconnect ∷ Downto ∷ Elsif ∷ Exit ∷ File ∷ For ∷ Function ∷ Generate ∷ Generic ∷ Group ∷ Guarded ∷ Impure ∷ In ∷ Inertial ∷ Inout ∷
+    Label ∷ Library ∷ Linkage ∷ Literal ∷ Loop ∷ Map ∷ Mod ∷ New ∷ Next ∷ On ∷ OpenWord ∷ Others ∷ Out ∷ Package ∷ Port ∷ Postponed ∷
+    Procedure ∷ Pure ∷ Range ∷ Record ∷ Register ∷ Reject ∷ Rem ∷ Report ∷ Return ∷ Rol ∷ Ror ∷ Select ∷ Severity ∷ Shared ∷ Sla ∷ Sll ∷
+    Sra ∷ Srl ∷ Subtype ∷ To ∷ TypeWord ∷ Unaffected ∷ Units ∷ Until ∷ Use ∷ Variable ∷ Wait ∷ When ∷ While ∷ With ∷ []
 
--- the token of the word in a row; the rows from 32 on are the words that fit nowhere
+-- the token of the word in a row; the rows from 32 on are the words that fit nowhere, and behind the last stands no word
 unfoldable pub token_in_row : ℕ → Token
-token_in_row row = get_or words_in_rows row Reserved
+token_in_row row = get_or words_in_rows row Name
 
--- a word has the number of its row, and all that fit nowhere have that of the first of them
+-- a word has the number of its row
 abbrev pub number_of : Token → ℕ
 number_of Entity = 0
 number_of Is = 1
@@ -51,7 +56,82 @@ number_of Ms = 28
 number_of Sec = 29
 number_of Min = 30
 number_of Hr = 31
-number_of Reserved = 32
+number_of Abs = 32
+number_of Access = 33
+number_of Alias = 34
+number_of All = 35
+number_of Array = 36
+number_of Assert = 37
+number_of Attribute = 38
+number_of Block = 39
+number_of Body = 40
+number_of Buffer = 41
+number_of Bus = 42
+number_of Case = 43
+number_of Component = 44
+number_of Configuration = 45
+number_of Constant = 46
+number_of Disconnect = 47
+number_of Downto = 48
+number_of Elsif = 49
+number_of Exit = 50
+number_of File = 51
+number_of For = 52
+number_of Function = 53
+number_of Generate = 54
+number_of Generic = 55
+number_of Group = 56
+number_of Guarded = 57
+number_of Impure = 58
+number_of In = 59
+number_of Inertial = 60
+number_of Inout = 61
+number_of Label = 62
+number_of Library = 63
+number_of Linkage = 64
+number_of Literal = 65
+number_of Loop = 66
+number_of Map = 67
+number_of Mod = 68
+number_of New = 69
+number_of Next = 70
+number_of On = 71
+number_of OpenWord = 72
+number_of Others = 73
+number_of Out = 74
+number_of Package = 75
+number_of Port = 76
+number_of Postponed = 77
+number_of Procedure = 78
+number_of Pure = 79
+number_of Range = 80
+number_of Record = 81
+number_of Register = 82
+number_of Reject = 83
+number_of Rem = 84
+number_of Report = 85
+number_of Return = 86
+number_of Rol = 87
+number_of Ror = 88
+number_of Select = 89
+number_of Severity = 90
+number_of Shared = 91
+number_of Sla = 92
+number_of Sll = 93
+number_of Sra = 94
+number_of Srl = 95
+number_of Subtype = 96
+number_of To = 97
+number_of TypeWord = 98
+number_of Unaffected = 99
+number_of Units = 100
+number_of Until = 101
+number_of Use = 102
+number_of Variable = 103
+number_of Wait = 104
+number_of When = 105
+number_of While = 106
+number_of With = 107
 number_of Name = 108
 number_of Integer = 109
 number_of Open = 110
@@ -83,7 +163,7 @@ row_26 : token_in_row 26 ≡ Ns
 unfolding token_in_row
 row_26 = refl
 
-row_107 : token_in_row 107 ≡ Reserved
+row_107 : token_in_row 107 ≡ With
 unfolding token_in_row
 row_107 = refl
 

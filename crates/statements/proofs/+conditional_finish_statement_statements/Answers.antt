@@ -63,20 +63,20 @@ conditional-returns t c =
     )
 
 pub finish-returns-then-ne : goal.finish-returns-then-ne
-finish-returns-then-ne t c = finish_end c.requires.0.inside refl c.peek-t.ensures c.requires.1 (ne-other _ Else c.if-ne.ensures) c.end_if.ensures
+finish-returns-then-ne t c = finish_end c.requires.0.inside refl c.peek-t.ensures c.requires.1 (ne-other c.peek-t.result.token Else c.if-ne.ensures) c.end_if.ensures
 
 pub finish-statements-requires : goal.finish-statements-requires
-finish-statements-requires t c = (omega (arith, c.decreases), rw c.past.ensures (ready-pass c.requires.0 refl c.peek-t.ensures (λ z. omega (arith, (ne-same _ Else c.if-ne.ensures), z))))
+finish-statements-requires t c = (omega (arith, c.decreases), rw c.past.ensures (ready-pass c.requires.0 refl c.peek-t.ensures (λ z. omega (arith, (ne-same c.peek-t.result.token Else c.if-ne.ensures), z))))
 
 pub finish-returns-in_err-q : goal.finish-returns-in_err-q
 finish-returns-in_err-q t c =
     let d = rw c.past.ensures at c.in_err-q.ensures in
-    reads-ends c.from_residual.result _ c.from_residual.ensures.1 (finish_else c.requires.0.inside refl c.peek-t.ensures c.requires.1 (ne-same _ Else c.if-ne.ensures) d.0 d.1 (end_if-off _ _ (numbered c.in_err-q.field-0.0)))
+    reads-ends c.from_residual.result _ c.from_residual.ensures.1 (finish_else c.requires.0.inside refl c.peek-t.ensures c.requires.1 (ne-same c.peek-t.result.token Else c.if-ne.ensures) d.0 d.1 (end_if-off _ _ (numbered c.in_err-q.field-0.0)))
 
 pub finish-returns : goal.finish-returns
 finish-returns t c =
     let d = rw c.past.ensures at c.in_ok-q.ensures in
-    finish_else c.requires.0.inside refl c.peek-t.ensures c.requires.1 (ne-same _ Else c.if-ne.ensures) d.0 d.1 c.end_if-2.ensures
+    finish_else c.requires.0.inside refl c.peek-t.ensures c.requires.1 (ne-same c.peek-t.result.token Else c.if-ne.ensures) d.0 d.1 c.end_if-2.ensures
 
 pub statement-assignment-requires : goal.statement-assignment-requires
 statement-assignment-requires t c = record { ready = c.requires.0; target = (c.requires.1, ap number_of c.in-Name.is) }

@@ -10,10 +10,10 @@ use Rattle.reader.proofs.Processes.{processes_end, processes_more}
 use Rattle.reader.proofs.process.process_list.Goals as goal
 
 pub returns-then-eq : goal.returns-then-eq
-returns-then-eq c = rw c.past.ensures (c.loop-t.invariant.1 _ _ _ (processes_end c.loop-t.invariant.0.inside refl c.peek-t.ensures (eq-same _ End c.if-eq.ensures)))
+returns-then-eq c = rw c.past.ensures (c.loop-t.invariant.1 _ _ _ (processes_end c.loop-t.invariant.0.inside refl c.peek-t.ensures (eq-same c.peek-t.result.token End c.if-eq.ensures)))
 
 pub process-requires : goal.process-requires
-process-requires c = record { ready = c.loop-t.invariant.0; first = (c.peek-t.ensures, (eq-other _ End c.if-eq.ensures)) }
+process-requires c = record { ready = c.loop-t.invariant.0; first = (c.peek-t.ensures, (eq-other c.peek-t.result.token End c.if-eq.ensures)) }
 
 pub returns-in_err-p : goal.returns-in_err-p
 returns-in_err-p c =
