@@ -1,20 +1,13 @@
 -- The header's lines, one behind the other, and its names.
 -- Assumes nothing.
-use Prim.Native.Nat.{ℕ, suc, ◌+◌, ◌*◌, ◌-◌, ◌<◌, ◌≤◌}
+use Prim.Native.Nat.{ℕ, zero, suc, ◌+◌, ◌*◌, ◌-◌, ◌<◌, ◌≤◌}
 use native.Mathlib.Omega.{arith}
 use native.Mathlib.Numerals.{add-one}
 use mathlib.Core.Path.{◌≡◌, refl, sym, ap, ◌∙◌, subst}
 use mathlib.Core.List.{List, [], ◌∷◌, ◌++◌, append_assoc}
-use lib.ListN.{length, get_or, take, drop, length-append, length-map}
-use lib.Seq.{sets}
-use Rattle.std.proofs.lemmas.List.{take_at, drop_at, length-take-le}
-use Rattle.std.proofs.lemmas.List.Edits.{sets-eq}
-use borrow.Rule.Slice.PartMut.{put_mid}
-use mathlib.Core.List.{map}
-use Rattle.std.specs.List.{between}
-use Rattle.std.specs.Char.{to_ascii_lowercase}
-use Rattle.std.proofs.lemmas.Str.Ascii.{lowercase_is}
-use Rattle.laws.proofs.Ranges.{Ranged, below, inside, above, ranged}
+use lib.ListN.{length, get_or, set, take, length-append, length-map, length-take}
+use lib.Seq.{sets, take-suc}
+use Rattle.laws.proofs.Lists.{sets-append}
 use Rattle.laws.specs.Text.{bytes}
 use Rattle.words.specs.Token.{Name}
 use Rattle.words.specs.Vocabulary.{lower_of, lower}
@@ -38,35 +31,21 @@ use Rattle.names.specs.Text.{refuses, Gets}
 use Rattle.heading.specs.Headed.{Shows}
 use Rattle.heading.specs.Inside.Lines.{variable}
 
-lowercase_same : (byte : ℕ) → to_ascii_lowercase byte ≡ lower_of byte
-lowercase_same byte = go (ranged 65 90 byte)
-  where
-    go : Ranged 65 90 byte → to_ascii_lowercase byte ≡ lower_of byte
-    go (below w h) = rw w ((lowercase_is byte).1 h)
-    go (inside w g h) = rw w ((lowercase_is byte).0 (g, h))
-    go (above w h) = rw w ((lowercase_is byte).2 h)
-
-lowercase_all : (name : List ℕ) → map to_ascii_lowercase name ≡ lower name
-lowercase_all [] = refl
-lowercase_all (byte ∷ name) = rw (lowercase_same byte, lowercase_all name)
+-- a byte of a name in lower case
+pub lower_at : (run : List ℕ) (i : ℕ) → i < length run → get_or (lower run) i 0 ≡ lower_of (get_or run i 0)
+lower_at [] i h = absurd (omega arith)
+lower_at (x ∷ run) zero h = refl
+lower_at (x ∷ run) (suc i) h = lower_at run i (omega arith)
 
 pub lower-length : (run : List ℕ) → length (lower run) ≡ length run
 lower-length run = length-map run lower_of
 
--- a part that was written, in lower case
-pub lowered : (out : List ℕ) (at after : ℕ) (name part : List ℕ) → after ≡ at + length name → at + length name ≤ length out
-    → part ≡ map to_ascii_lowercase (between at after (sets out at name)) → put_mid at (after - at) (sets out at name) part ≡ sets out at (lower name)
-lowered out at after name part e h w =
-    let rest : List ℕ = drop (at + length name) out in
-    let front : length (take at out) ≡ at = length-take-le at out (omega arith) in
-    let x : sets out at name ≡ take at out ++ (name ++ rest) = sets-eq name out at h ∙ append_assoc (take at out) name rest in
-    let d : drop at (take at out ++ (name ++ rest)) ≡ name ++ rest = drop_at (take at out) (name ++ rest) at front in
-    let k : length name ≡ after - at = omega arith in
-    let p : part ≡ lower name = rw (x, d, take_at name rest (after - at) k, lowercase_all name) at w in
-    let room : at + length (lower name) ≤ length out = rw (lower-length name) h in
-    let y : sets out at (lower name) ≡ take at out ++ (lower name ++ rest) =
-    sets-eq (lower name) out at room ∙ rw (lower-length name) (append_assoc (take at out) (lower name) rest) in
-    rw (x, d, take_at (take at out) (name ++ rest) at front, drop_at name rest (after - at) k, p, y)
+-- one byte more of a text is written
+pub copied_more : (out : List ℕ) (at i : ℕ) (text mid : List ℕ) → i < length text → mid ≡ sets out at (take i text)
+    → set mid (at + i) (get_or text i 0) ≡ sets out at (take (suc i) text)
+copied_more out at i text mid l e =
+    rw (take-suc text i 0 l, sets-append out at (take i text) (get_or text i 0 ∷ []), ← e)
+    (ap (λ j. set mid (at + j) (get_or text i 0)) (sym (length-take i text ∙ omega arith)))
 
 -- the line of a signal in front of those of the others
 pub variables_more : (k : ℕ) (n : Name) (ns : List Name) → variables k (n ∷ ns) ≡ variable k n ++ variables (suc k) ns

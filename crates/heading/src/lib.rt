@@ -15,17 +15,19 @@ use ledger::{SIGNAL_NAMES, SIGNALS, fresh};
 use look::peek;
 use reader::design::survey;
 use refusal::{Reason, Refusal};
+use words::vocabulary::lower;
 use writing::copy;
 
-// A name, in lower case.
+// A name, in lower case. Byte by byte: a copy of the whole name would call `memmove`, which the archive for C calls nowhere.
 // Kept: a buffer and a place in these functions too, for the reason that `writing::copy` has.
 fn copy_name(out: &mut [u8], at: usize, name: &[u8]) -> usize
     requires { at + length name.now ≤ length out.old }
     ensures { Writes out.old at (lower name.now) result out.new }
 {
-    let end = copy(out, at, name);
-    out[at..end].make_ascii_lowercase();
-    end
+    for i in 0..name.len() {
+        out[at + i] = lower(name[i]);
+    }
+    at + name.len()
 }
 
 // The line of signal k.
