@@ -4,7 +4,7 @@ use Prim.Native.Nat.{ℕ, zero, suc, ◌+◌, ◌≤◌}
 use mathlib.Core.Path.{◌≡◌, refl, ap, ◌∙◌}
 use mathlib.Core.List.{List, ◌∷◌, ◌++◌}
 use native.Mathlib.Omega.{arith}
-use lib.ListN.{length, set, take, drop, replicate}
+use lib.ListN.{length, set, take, drop, replicate, length-set}
 use Rattle.std.proofs.lemmas.List.{length-take-le}
 use Rattle.emission.specs.Inside.Draft.{zeros, ones}
 
@@ -21,3 +21,8 @@ pub ones_more : (words : List ℕ) (k count : ℕ) → set (ones words k count) 
 unfolding ones
 ones_more words k zero = let e : k + 0 ≡ k = omega arith in rw e
 ones_more words k (suc count) = let e : k + suc count ≡ k + 1 + count = omega arith in rw e (ones_more (set words k 1) (k + 1) count)
+
+pub length-ones : (words : List ℕ) (k count : ℕ) → length (ones words k count) ≡ length words
+unfolding ones
+length-ones words k zero = refl
+length-ones words k (suc count) = length-ones (set words k 1) (k + 1) count ∙ length-set words k 1

@@ -1,13 +1,14 @@
 -- The kind of an instruction says what the instruction does, and legal words are those of the instruction that they are read as. Assumes nothing.
 use Prim.Native.Nat.{ℕ, suc, ◌+◌, ◌*◌, ◌/◌, ◌%◌, ◌<◌}
 use native.Mathlib.Omega.{arith}
-use mathlib.Core.Path.{◌≡◌, refl, sym, ◌∙◌, ap}
+use mathlib.Core.Path.{◌≡◌, refl, sym, subst, ◌∙◌, ap}
 use mathlib.Core.Bool.{true, false}
 use mathlib.Core.Logic.{◌⊎◌, inl, inr, ⊎_elim}
 use lib.ListN.{get_or}
 use Rattle.kind.specs.declared.Kind.{Kind}
 use Rattle.kind.specs.declared.Kind.TheVariants.{Name, Literal, Not, And, Or, Nand, Nor, Xor, Xnor, Assignment, Test, Skip}
 use Rattle.kind.specs.Numbers.{number_of}
+use Rattle.kind.proofs.Numbers.{one_kind}
 use Rattle.laws.proofs.Deciding.{differ}
 use Rattle.syntax.specs.Circuit.{Operator, AND, OR, NAND, NOR, XOR, XNOR}
 use Rattle.table.specs.Instructions.{Instruction, name, literal, negation, binary, takes, leaves}
@@ -160,3 +161,7 @@ unfolding instruction_of
 legal-exists signals operation delay l =
     let e = l.exists in
     rw (← e) (exists_is l.kind (operation / 16) delay signals l.about l.short)
+
+-- a legal assignment is to a signal that there is
+pub legal-signal : (signals operation delay : ℕ) → Legal signals operation delay → operation % 16 ≡ 9 → operation / 16 < signals
+legal-signal signals operation delay l e = subst (λ k. operation / 16 < about_below signals k) (one_kind l.kind Assignment (l.exists ∙ e)) l.about

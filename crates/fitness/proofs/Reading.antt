@@ -2,7 +2,7 @@
 use Prim.Native.Nat.{ℕ, zero, suc, ◌+◌, ◌-◌, ◌/◌, ◌%◌, ◌≤◌, ◌<◌}
 use native.Mathlib.Omega.{arith}
 use native.Mathlib.Numerals.{add-one}
-use mathlib.Core.Path.{◌≡◌, refl, sym, ◌∙◌, ap, subst}
+use mathlib.Core.Path.{◌≡◌, refl, sym, ◌∙◌, ap}
 use mathlib.Core.Bool.{Bool, true, false}
 use mathlib.Core.Logic.{⊎_elim}
 use mathlib.Core.List.{List}
@@ -28,10 +28,8 @@ use Rattle.fitness.specs.Inside.Parts.{signals, processes, instructions, Rows, R
 use Rattle.kind.specs.declared.Kind.{Kind}
 use Rattle.kind.specs.declared.Kind.TheVariants.{Assignment}
 use Rattle.kind.specs.Numbers.{number_of}
-use Rattle.kind.proofs.Numbers.{one_kind}
-use Rattle.fitness.specs.Inside.Kinds.{about_below}
 use Rattle.fitness.specs.Inside.Drivers.{Posts}
-use Rattle.fitness.proofs.Kind.{Means, means}
+use Rattle.fitness.proofs.Kind.{Means, means, legal-signal}
 
 -- from 0 on
 module _ (w : List ℕ) where
@@ -148,9 +146,7 @@ module _ (w : List ℕ) (ready : Ready w) (x : ℕ) (l : x < instructions w) whe
 
   pub posts-signal : operation % 16 ≡ 9 → operation / 16 < 64
   posts-signal e =
-      let h = ready.legal x l in
-      let q : h.kind ≡ Assignment = one_kind h.kind Assignment (h.exists ∙ e) in
-      let b : operation / 16 < signals w = subst (λ k. operation / 16 < about_below (signals w) k) q h.about in
+      let b = legal-signal (signals w) operation (get_or w (4291 + x) 0) (ready.legal x l) e in
       omega (arith, ready.few.few_signals)
 
   pub posts-nothing : (operation % 16 ≡ 9 → ⊥) → (k : ℕ) → Posts (at (decode_table w).code x) k → ⊥

@@ -27,7 +27,7 @@ either false f = refl
 abbrev pub runs_on : ℕ → Bool
 runs_on byte = in_run (class_of byte)
 
-run_prefix_from : (i : ℕ) (s : List ℕ) → run_length i s ≡ i + prefix_len runs_on s
+pub run_prefix_from : (i : ℕ) (s : List ℕ) → run_length i s ≡ i + prefix_len runs_on s
 unfolding run_length
 run_prefix_from i [] = omega arith
 run_prefix_from i (b ∷ s) = go (runs_on b) (run_prefix_from (i + 1) s)

@@ -83,6 +83,9 @@ module _ (word : ℕ) where
             let q : c.k + (64 - c.k) ≡ 64 = omega (arith, c.walk.low) in
             rw (← q, jump (64 - c.k) c.k (λ j l. walk_last c.walk e (c.k + j) (omega arith))) c.writes
 
+        pub chosen-within : place ≤ at + 3 * c.k
+        chosen-within = omega (arith, c.writes.end, chosen_most 0 (values c.k cs), length-values c.k cs)
+
         module _ {signal left : ℕ} (goes : (0 < m) × (signal ≡ count_trailing_zeros 64 m) × (left ≡ bit_xor m (1 * 2 ^ signal))) where
           pub step : Next word 64 c.k signal left
           step = walk_next c.walk (omega arith) goes
@@ -96,7 +99,7 @@ module _ (word : ℕ) where
               ∙ jump (signal - c.k) c.k (λ j l. step.unset (c.k + j) (omega arith) (omega arith))
 
           pub chosen-place : place ≤ at + 3 * signal
-          chosen-place = omega (arith, c.writes.end, chosen_most 0 (values c.k cs), length-values c.k cs, step.from)
+          chosen-place = omega (arith, chosen-within, step.from)
 
           pub chosen_more : (r : ℕ) (after : List ℕ) → Writes mid place (shown signal (value_of cs signal)) r after → Chosen after r left
           chosen_more r after w = record {
